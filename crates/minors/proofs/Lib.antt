@@ -1,3 +1,6 @@
 pub mod Ring
 pub mod Expansion
 pub mod MinorAt
+pub mod Bound
+pub mod Total
+pub mod Laws

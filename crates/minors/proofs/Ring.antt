@@ -1,6 +1,8 @@
 -- The ring laws of the whole numbers that minors need. A number is read as the difference `up - down`, and products are handed to `omega` by name.
-use Rattle.std.proofs.Common.{◌≡◌, ◌≢◌, ◌⊎◌, inl, inr, ℕ, zero, suc, ◌+◌, ◌*◌, ◌<◌, ◌≤◌, ℤ, pos, negsuc, ◌+ℤ◌, ◌-ℤ◌, ◌*ℤ◌, neg_ℤ, unsigned_abs, refl, sym, ap, ◌∙◌, arith}
+use Rattle.std.proofs.Common.{◌≡◌, ◌≢◌, ◌⊎◌, inl, inr, ℕ, zero, suc, ◌+◌, ◌*◌, ◌/◌, ◌<◌, ◌≤◌, ℤ, pos, negsuc, ◌+ℤ◌, ◌-ℤ◌, ◌*ℤ◌, neg_ℤ, unsigned_abs, refl, sym, ap, ◌∙◌, arith}
 use Rattle.std.proofs.Math.IntN.{*ℤ_comm}
+use Rattle.std.proofs.Math.Nat.{mul-div_cancel_left}
+use Rattle.std.proofs.lemmas.Int.{unsigned_abs-mul}
 use borrow.Author.Differences.{up, down, sum_is_lem, product_is, neg_is, same_in, same_out, abs_is}
 
 -- what `omega` needs for sums, differences and signs; a product stays an unknown
@@ -60,3 +62,29 @@ abs-sub a b = omega (arith, abs-add a (neg_ℤ b), abs-neg b)
 pub zero_of_abs : (a : ℤ) → unsigned_abs a ≡ 0 → a ≡ pos 0
 zero_of_abs (pos n) h = ap pos h
 zero_of_abs (negsuc n) h = absurd (omega arith)
+
+-- ---- cancelling a factor that is not 0
+
+pub abs_positive : (a : ℤ) → a ≢ pos 0 → 0 < unsigned_abs a
+abs_positive (pos zero) h = absurd (h refl)
+abs_positive (pos (suc n)) h = omega arith
+abs_positive (negsuc n) h = omega arith
+
+pub cancel_ℕ : (n a b : ℕ) → 0 < n → n * a ≡ n * b → a ≡ b
+cancel_ℕ n a b h e = sym (mul-div_cancel_left a h) ∙ ap (λ x. x / n) e ∙ mul-div_cancel_left b h
+
+pub cancel : (n a b : ℤ) → n ≢ pos 0 → n *ℤ a ≡ n *ℤ b → a ≡ b
+cancel n a b h e =
+    let none : n *ℤ (a -ℤ b) ≡ pos 0 = mul-sub n a b ∙ omega (arith, sums) in
+    let size : unsigned_abs n * unsigned_abs (a -ℤ b) ≡ unsigned_abs n * 0 = sym (unsigned_abs-mul n (a -ℤ b)) ∙ ap unsigned_abs none ∙ omega arith in
+    same a b (zero_of_abs (a -ℤ b) (cancel_ℕ (unsigned_abs n) (unsigned_abs (a -ℤ b)) 0 (abs_positive n h) size))
+  where
+    same : (a b : ℤ) → a -ℤ b ≡ pos 0 → a ≡ b
+    same a b e = omega (arith, sums)
+
+-- numbers of one size are equal up to the sign
+pub same_size : (a b : ℤ) → unsigned_abs a ≡ unsigned_abs b → (a ≡ b) ⊎ (a ≡ neg_ℤ b)
+same_size (pos a) (pos b) e = inl (ap pos e)
+same_size (pos a) (negsuc b) e = inr (ap pos e)
+same_size (negsuc a) (pos b) e = inr (ap neg_ℤ (ap pos e))
+same_size (negsuc a) (negsuc b) e = inl (omega (arith, sums))
