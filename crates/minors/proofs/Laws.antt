@@ -47,17 +47,39 @@ zero_at_equal_rows rows i j h k e =
     minor_at_equal (map entry rows) i j (columns_of rows) h (omega arith)
         (get_or-map_default entry rows i [] ∙ ap entry e ∙ sym (get_or-map_default entry rows j []))
 
-pub one_at_identity : OneAtIdentity
+minor-is : (rows : List (List ℤ)) → minor rows ≡ minor_at (map entry rows) (columns_of rows)
 unfolding minor
-one_at_identity rows unit = ?
+minor-is rows = refl
+
+row_at : (rows : List (List ℤ)) (i c : ℕ) → get_or (map entry rows) i nothing c ≡ entry (get_or rows i []) c
+row_at rows i c = ap (λ (row : ℕ → ℤ). row c) (get_or-map_default entry rows i [])
+
+pub one_at_identity : OneAtIdentity
+one_at_identity rows unit =
+    let R : List (ℕ → ℤ) = map entry rows in
+    let len : length R ≡ length rows = length-map rows entry in
+    let from : (i : ℕ) → 0 + i ≡ i = λ i. omega arith in
+    minor-is rows
+    ∙ ap (λ n. minor_at R (range_with_len 0 n)) (sym len)
+    ∙ minor_at_identity R 0
+        (λ i l. let inside : i < length rows = omega arith in row_at rows i (0 + i) ∙ ap (entry (get_or rows i [])) (from i) ∙ (unit i inside).one inside)
+        (λ i j l k ne. let inside : i < length rows = omega arith in row_at rows i (0 + j) ∙ ap (entry (get_or rows i [])) (from j) ∙ (unit i inside).zeros j (omega arith) ne)
 
 pub scale_of_identity : ScaleOfIdentity
-scale_of_identity rows unit = record { nonzero = λ e. ?; size = ap unsigned_abs (sym (one_at_identity rows unit)) }
+scale_of_identity rows unit = record { nonzero = λ e. one_apart e; size = ap unsigned_abs (sym (one_at_identity rows unit)) }
+  where
+    one_apart : pos 1 ≢ pos 0
+    one_apart e = omega (arith, sums)
+
+-- ---- Cramer's rule
 
 -- the numbers of a column, over functions
 columns_map : (rows : List (List ℤ)) (c : ℕ) → map (λ (row : ℕ → ℤ). row c) (map entry rows) ≡ column_of rows c
 columns_map [] c = refl
 columns_map (r ∷ rows) c = ap (λ (tail : List ℤ). entry r c ∷ tail) (columns_map rows c)
+
+scaled : (s m p n : ℤ) → n ≡ s *ℤ m +ℤ pos 0 *ℤ p → s *ℤ m ≡ n
+scaled s m p n e = omega (arith, sums, zero_mul p)
 
 pub replaced_row : ReplacedRow
 replaced_row s row factors rows k comb h =
@@ -65,9 +87,177 @@ replaced_row s row factors rows k comb h =
     let len : length R ≡ length rows = length-map rows entry in
     let cols : List ℕ = columns_of rows in
     let times : ℕ → ℤ = λ c. s *ℤ entry row c +ℤ pos 0 *ℤ nothing c in
-    let linear : minor_at (set R k times) cols ≡ s *ℤ minor_at (set R k (entry row)) cols +ℤ pos 0 *ℤ minor_at (set R k nothing) cols = minor_at_linear R k s (pos 0) (entry row) nothing cols (omega arith) in
     let within : minor_at (set R k times) cols ≡ minor_at (set R k (sum_of_rows factors R)) cols =
           minor_at_within (λ c. c < length rows) R k times (sum_of_rows factors R) cols (in_square rows)
               (λ c l. +ℤ_idr (s *ℤ entry row c) ∙ comb.each c l ∙ ap (dot factors) (sym (columns_map rows c))) in
-    let replaced : minor_at (set R k (sum_of_rows factors R)) cols ≡ entry factors k *ℤ minor_at R cols = minor_at_replaced factors R k cols (omega arith) in
-    ?
+    ap (λ (n : ℤ). s *ℤ n) (minor-set rows k row)
+    ∙ scaled s (minor_at (set R k (entry row)) cols) (minor_at (set R k nothing) cols) (minor_at (set R k times) cols) (minor_at_linear R k s (pos 0) (entry row) nothing cols (omega arith))
+    ∙ within
+    ∙ minor_at_replaced factors R k cols (omega arith)
+    ∙ ap (λ (n : ℤ). entry factors k *ℤ n) (sym (minor-is rows))
+
+same_factor : (s m f d : ℤ) → s ≢ pos 0 → unsigned_abs s ≡ unsigned_abs d → s *ℤ m ≡ f *ℤ d → unsigned_abs f ≡ unsigned_abs m
+same_factor s m f d ne size e =
+    let sizes : unsigned_abs s * unsigned_abs f ≡ unsigned_abs s * unsigned_abs m =
+          ap (λ n. n * unsigned_abs f) size ∙ comm (unsigned_abs d) (unsigned_abs f) ∙ sym (unsigned_abs-mul f d) ∙ ap unsigned_abs (sym e) ∙ unsigned_abs-mul s m in
+    cancel_ℕ (unsigned_abs s) (unsigned_abs f) (unsigned_abs m) (abs_positive s ne) sizes
+  where
+    comm : (a b : ℕ) → a * b ≡ b * a
+    comm a b = omega arith
+
+pub factor_is_minor : FactorIsMinor
+factor_is_minor s row factors rows k scale comb h =
+    same_factor s (minor (set rows k row)) (entry factors k) (minor rows) scale.nonzero scale.size (replaced_row s row factors rows k comb h)
+
+pub scale_after_pivot : ScaleAfterPivot
+scale_after_pivot s row pivot rows k scale comb h ne = record { nonzero = ne; size = factor_is_minor s row pivot rows k scale comb h }
+
+-- ---- an exchange of rows
+
+column-set : (rows : List (List ℤ)) (k : ℕ) (row : List ℤ) (c : ℕ) → column_of (set rows k row) c ≡ set (column_of rows c) k (entry row c)
+column-set rows k row c = map-set (λ r. entry r c) rows k row
+
+column_at : (rows : List (List ℤ)) (k c : ℕ) → get_or (column_of rows c) k (pos 0) ≡ entry (get_or rows k []) c
+column_at rows k c = get_or-map_default (λ (r : List ℤ). entry r c) rows k []
+
+exchange_sums : (t gn all qe pa rb psr rse : ℤ) → t +ℤ gn ≡ all +ℤ qe → gn ≡ pos 0 → all ≡ pa +ℤ rb → pa ≡ psr → rb ≡ neg_ℤ rse → qe ≡ rse → psr ≡ t
+exchange_sums t gn all qe pa rb psr rse sum none is_all is_pa is_rb is_qe = omega (arith, sums)
+
+exchange_step : (p s r row entering t g number q all a b : ℤ)
+    → t +ℤ g *ℤ number ≡ all +ℤ q *ℤ entering
+    → g ≡ p *ℤ r +ℤ neg_ℤ r *ℤ p → all ≡ p *ℤ a +ℤ neg_ℤ r *ℤ b → a ≡ s *ℤ row → b ≡ s *ℤ entering → q ≡ s *ℤ r
+    → (p *ℤ s) *ℤ row ≡ t
+exchange_step p s r row entering t g number q all a b sum is_g is_all is_a is_b is_q =
+    let none : g ≡ pos 0 = omega (arith, sums, is_g, *ℤ_comm p r, neg-mul r p) in
+    exchange_sums t (g *ℤ number) all (q *ℤ entering) (p *ℤ a) (neg_ℤ r *ℤ b) ((p *ℤ s) *ℤ row) (r *ℤ (s *ℤ entering)) sum
+        (ap (λ (n : ℤ). n *ℤ number) none ∙ zero_mul number)
+        is_all
+        (ap (λ (n : ℤ). p *ℤ n) is_a ∙ sym (mul_assoc p s row))
+        (ap (λ (n : ℤ). neg_ℤ r *ℤ n) is_b ∙ neg-mul r (s *ℤ entering))
+        (ap (λ (n : ℤ). n *ℤ entering) (is_q ∙ *ℤ_comm s r) ∙ mul_assoc r s entering)
+
+difference : (p r q n : ℤ) → p *ℤ r -ℤ q *ℤ n ≡ p *ℤ r +ℤ neg_ℤ q *ℤ n
+difference p r q n = omega (arith, sums, neg-mul q n)
+
+exchange : (s : ℤ) (entering pivot row factors new : List ℤ) (rows : List (List ℤ)) (k : ℕ)
+    → IsCombination s entering pivot rows → IsCombination s row factors rows → k < length rows → length new ≡ length rows
+    → entry new k ≡ s *ℤ entry factors k
+    → ((i : ℕ) → i < length rows → i ≢ k → entry new i ≡ entry pivot k *ℤ entry factors i -ℤ entry factors k *ℤ entry pivot i)
+    → IsCombination (entry pivot k *ℤ s) row new (set rows k entering)
+exchange s entering pivot row factors new rows k of_entering of_row h len kept others =
+    let p : ℤ = entry pivot k in
+    let r : ℤ = entry factors k in
+    let same_len : length (set rows k entering) ≡ length rows = length-set rows k entering in
+    let g : ℕ → ℤ = λ i. p *ℤ entry factors i +ℤ neg_ℤ r *ℤ entry pivot i in
+    record {
+      len = len ∙ sym same_len;
+      each = λ c l.
+        let numbers : List ℤ = column_of rows c in
+        let size : length numbers ≡ length rows = length-map rows (λ (row : List ℤ). entry row c) in
+        let inside : c < length rows = omega arith in
+        let sum : total (entry new) (set numbers k (entry entering c)) +ℤ g k *ℤ get_or numbers k (pos 0) ≡ total g numbers +ℤ entry new k *ℤ entry entering c =
+              total_exchange (entry new) g numbers k (entry entering c) (omega arith) (λ i il ne. let il' : i < length rows = omega arith in others i il' ne ∙ difference p (entry factors i) r (entry pivot i)) in
+        exchange_step p s r (entry row c) (entry entering c) (total (entry new) (set numbers k (entry entering c))) (g k) (get_or numbers k (pos 0)) (entry new k) (total g numbers) (total (entry factors) numbers) (total (entry pivot) numbers)
+          sum refl (total_linear p (neg_ℤ r) (entry factors) (entry pivot) numbers)
+          (sym (dot_is_total factors numbers) ∙ sym (of_row.each c inside))
+          (sym (dot_is_total pivot numbers) ∙ sym (of_entering.each c inside))
+          kept
+        ∙ sym (dot_is_total new (set numbers k (entry entering c)))
+        ∙ ap (dot new) (sym (column-set rows k entering c));
+    }
+
+-- ---- the exact division
+
+quotient_of : (p s d e m q : ℤ) → s ≢ pos 0 → p ≢ pos 0 → unsigned_abs s ≡ unsigned_abs d → s *ℤ e ≡ p *ℤ d → (p *ℤ s) *ℤ m ≡ q *ℤ e
+    → (quotient : ℤ) × (quotient *ℤ s ≡ q) × (unsigned_abs quotient ≡ unsigned_abs m)
+quotient_of p s d e m q nonzero ne size minors replaced =
+    elim (same_size s d size) [
+      inl same ↦
+        let is_e : e ≡ p = cancel s e p nonzero (minors ∙ ap (λ (n : ℤ). p *ℤ n) (sym same) ∙ *ℤ_comm p s) in
+        let scaled : p *ℤ (s *ℤ m) ≡ p *ℤ q = sym (mul_assoc p s m) ∙ replaced ∙ ap (λ (n : ℤ). q *ℤ n) is_e ∙ *ℤ_comm q p in
+        (m, *ℤ_comm m s ∙ cancel p (s *ℤ m) q ne scaled, refl)
+    | inr turned ↦
+        let is_d : d ≡ neg_ℤ s = omega (arith, sums) in
+        let is_e : e ≡ neg_ℤ p = cancel s e (neg_ℤ p) nonzero (minors ∙ ap (λ (n : ℤ). p *ℤ n) is_d ∙ mul-neg p s ∙ ap neg_ℤ (*ℤ_comm p s) ∙ sym (mul-neg s p)) in
+        let scaled : p *ℤ (s *ℤ m) ≡ p *ℤ neg_ℤ q = sym (mul_assoc p s m) ∙ replaced ∙ ap (λ (n : ℤ). q *ℤ n) is_e ∙ mul-neg q p ∙ ap neg_ℤ (*ℤ_comm q p) ∙ sym (mul-neg p q) in
+        let is_q : s *ℤ m ≡ neg_ℤ q = cancel p (s *ℤ m) (neg_ℤ q) ne scaled in
+        (neg_ℤ m, neg-mul m s ∙ ap neg_ℤ (*ℤ_comm m s ∙ is_q) ∙ twice q, abs-neg m)
+    ]
+  where
+    twice : (n : ℤ) → neg_ℤ (neg_ℤ n) ≡ n
+    twice n = omega (arith, sums)
+
+pub pivot_divides : PivotDivides
+pivot_divides s entering pivot row factors rows k other scale of_entering of_row h l ne nonzero =
+    let p : ℤ = entry pivot k in
+    let r : ℤ = entry factors k in
+    let n : ℕ = length rows in
+    let g : ℕ → ℤ = λ i. p *ℤ entry factors i -ℤ r *ℤ entry pivot i in
+    let plain : List ℤ = map g (range_with_len 0 n) in
+    let plain_len : length plain ≡ n = length-map-range_with_len g 0 n in
+    let new : List ℤ = set plain k (s *ℤ r) in
+    let at : (i : ℕ) → i < n → i ≢ k → entry new i ≡ g i = λ i il apart. get_or-set_other plain k i (s *ℤ r) (pos 0) apart ∙ get_or-map-range_with_len g 0 n i i (pos 0) il (omega arith) in
+    let square : List (List ℤ) = set rows k entering in
+    let square_len : length square ≡ n = length-set rows k entering in
+    let comb : IsCombination (p *ℤ s) row new square =
+          exchange s entering pivot row factors new rows k of_entering of_row h (length-set plain k (s *ℤ r) ∙ plain_len) (get_or-set_same plain k (s *ℤ r) (pos 0) (omega arith)) at in
+    quotient_of p s (minor rows) (minor square) (minor (set square other row)) (g other) scale.nonzero nonzero scale.size
+        (replaced_row s entering pivot rows k of_entering h)
+        (replaced_row (p *ℤ s) row new square other comb (omega arith) ∙ ap (λ (x : ℤ). x *ℤ minor square) (at other l ne))
+
+pub pivot_keeps_combination : PivotKeepsCombination
+pivot_keeps_combination s entering pivot row factors new rows k nonzero of_entering of_row h pivoted =
+    let p : ℤ = entry pivot k in
+    let multiple : List ℤ = map (λ x. x *ℤ s) new in
+    let new_len : length new ≡ length rows = pivoted.len ∙ of_row.len in
+    let factors_len : length factors ≡ length rows = of_row.len in
+    let at : (i : ℕ) → i < length rows → entry multiple i ≡ entry new i *ℤ s = λ i il. get_or-map (λ x. x *ℤ s) new i (pos 0) (pos 0) (omega arith) in
+    let comb : IsCombination (p *ℤ s) row multiple (set rows k entering) =
+          exchange s entering pivot row factors multiple rows k of_entering of_row h (length-map new (λ x. x *ℤ s) ∙ new_len)
+              (at k h ∙ ap (λ (x : ℤ). x *ℤ s) pivoted.kept ∙ *ℤ_comm (entry factors k) s)
+              (λ i il apart. at i il ∙ pivoted.divided i (omega arith) apart) in
+    let same_len : length (set rows k entering) ≡ length rows = length-set rows k entering in
+    record {
+      len = new_len ∙ sym same_len;
+      each = λ c l.
+        let numbers : List ℤ = column_of (set rows k entering) c in
+        let size : length numbers ≡ length (set rows k entering) = length-map (set rows k entering) (λ (row : List ℤ). entry row c) in
+        let sum : total (entry multiple) numbers ≡ s *ℤ total (entry new) numbers +ℤ pos 0 *ℤ total (entry new) numbers =
+              total_same (entry multiple) (λ i. s *ℤ entry new i +ℤ pos 0 *ℤ entry new i) numbers (λ i il. at i (omega arith) ∙ widened s (entry new i)) ∙ total_linear s (pos 0) (entry new) (entry new) numbers in
+        divided p s (entry row c) (dot multiple numbers) (total (entry multiple) numbers) (total (entry new) numbers) nonzero (comb.each c l) (dot_is_total multiple numbers) sum
+        ∙ sym (dot_is_total new numbers);
+    }
+  where
+    widened : (s n : ℤ) → n *ℤ s ≡ s *ℤ n +ℤ pos 0 *ℤ n
+    widened s n = omega (arith, sums, *ℤ_comm n s, zero_mul n)
+    divided : (p s row d m t : ℤ) → s ≢ pos 0 → (p *ℤ s) *ℤ row ≡ d → d ≡ m → m ≡ s *ℤ t +ℤ pos 0 *ℤ t → p *ℤ row ≡ t
+    divided p s row d m t nonzero e same sum = cancel s (p *ℤ row) t nonzero (sym (ap (λ (n : ℤ). n *ℤ row) (*ℤ_comm p s) ∙ mul_assoc s p row) ∙ e ∙ same ∙ sum ∙ omega (arith, sums, zero_mul t))
+
+-- ---- the square's own rows, sums and signs
+
+negated_factor : (p n : ℤ) → pos 0 -ℤ n ≡ neg_ℤ (pos 1) *ℤ n +ℤ pos 0 *ℤ p
+negated_factor p n = omega (arith, sums, neg-mul (pos 1) n, one_mul n, zero_mul p)
+
+pub leaving_row_is_combination : LeavingRowIsCombination
+leaving_row_is_combination s entering pivot new rows k of_entering h leaving = ?
+
+pub square_row_is_combination : SquareRowIsCombination
+square_row_is_combination s factors rows k h len kept zeros = ?
+
+pub sum_of_combinations : SumOfCombinations
+sum_of_combinations s x y a b row of_a of_b factors rows comb_a comb_b row_is len factors_are = ?
+
+pub negated_combination : NegatedCombination
+negated_combination s row factors rows comb = ?
+
+pub negated_scale : NegatedScale
+negated_scale s rows scale = ?
+
+pub minor_is_bounded : MinorIsBounded
+minor_is_bounded rows most h small = ?
+
+pub factor_is_bounded : FactorIsBounded
+factor_is_bounded s row factors rows k most scale comb h small row_small = ?
+
+pub bound_is_small : BoundIsSmall
+bound_is_small = ?
