@@ -1,11 +1,13 @@
 -- The laws of minors of squares.
-use Rattle.std.proofs.Common.{◌≡◌, ◌≢◌, ◌⊎◌, inl, inr, ℕ, zero, suc, ◌+◌, ◌*◌, ◌<◌, ◌≤◌, ℤ, pos, negsuc, ◌+ℤ◌, ◌-ℤ◌, ◌*ℤ◌, neg_ℤ, unsigned_abs, List, [], ◌∷◌, length, get_or, set, map, All, refl, sym, ap, subst, ◌∙◌, arith}
+use Rattle.std.proofs.Common.{◌≡◌, ◌≢◌, ◌⊎◌, inl, inr, ℕ, zero, suc, ◌+◌, ◌-◌, ◌*◌, ◌<◌, ◌≤◌, cond, eqb, ℤ, pos, negsuc, ◌+ℤ◌, ◌-ℤ◌, ◌*ℤ◌, neg_ℤ, unsigned_abs, List, [], ◌∷◌, length, get_or, set, map, All, refl, sym, ap, subst, ◌∙◌, arith}
 use Rattle.std.proofs.Math.IntN.{*ℤ_comm, +ℤ_idr}
 use Rattle.std.proofs.Math.ListN.{get_or-map as get_or-map_default}
-use Rattle.std.proofs.lemmas.List.{set-get_or, get_or-set_same, get_or-set_other, length-set, map-set, length-map, get_or-map}
-use Rattle.std.proofs.lemmas.List.FromFn.{length-map-range_with_len, get_or-map-range_with_len}
+use Rattle.std.proofs.lemmas.List.{set-get_or, get_or-set_same, get_or-set_other, length-set, map-set, length-map, get_or-map, get_or_past}
+use Rattle.std.proofs.lemmas.List.FromFn.{length-range_with_len, length-map-range_with_len, get_or-map-range_with_len}
 use Rattle.std.specs.List.{range_with_len, AllByRecursion}
-use Rattle.std.proofs.lemmas.Bool.{cases_eq}
+use Rattle.std.proofs.Math.Nat.{mul-le-mul}
+use Rattle.std.proofs.lemmas.Bool.{cases_eq, cases_lt}
+use Rattle.std.proofs.lemmas.Bool.Decides.{nat_tests}
 use Rattle.std.proofs.lemmas.Int.{unsigned_abs-mul}
 use mathlib.Core.Path.{fun_ext}
 use Rattle.minors.specs.Minor.{entry, minor, minor_at, factorial, IsUnit, HasSmallEntries}
@@ -13,7 +15,7 @@ use Rattle.minors.specs.Combination.{dot, column_of, IsCombination, IsScale, IsP
 use Rattle.minors.specs.Laws.{LinearInEachRow, ZeroAtEqualRows, OneAtIdentity, ScaleOfIdentity, ReplacedRow, FactorIsMinor, ScaleAfterPivot, PivotDivides, PivotKeepsCombination, LeavingRowIsCombination, SquareRowIsCombination, SumOfCombinations, NegatedCombination, NegatedScale, MinorIsBounded, FactorIsBounded, BoundIsSmall}
 use Rattle.minors.proofs.Ring.{sums, mul-add, add-mul, mul-sub, mul_assoc, mul_swap, zero_mul, mul_zero, one_mul, neg-mul, mul-neg, cancel, cancel_ℕ, abs_positive, same_size, abs-neg}
 use Rattle.minors.proofs.MinorAt.{nothing, minor_at_linear, minor_at_equal, minor_at_replaced, minor_at_within, all_in_range, minor_at_identity, sum_of_rows}
-use Rattle.minors.proofs.Bound.{minor_at_bound, product_of_range, last_most, factorial_mono, below_power}
+use Rattle.minors.proofs.Bound.{minor_at_bound, product_of_range, last_most, product_of, factorial_mono, below_power}
 use Rattle.minors.proofs.Total.{total, dot_is_total, total_same, total_linear, total_exchange, total_single, dot_neg}
 
 abbrev columns_of : List (List ℤ) → List ℕ
@@ -235,29 +237,151 @@ pivot_keeps_combination s entering pivot row factors new rows k nonzero of_enter
 
 -- ---- the square's own rows, sums and signs
 
-negated_factor : (p n : ℤ) → pos 0 -ℤ n ≡ neg_ℤ (pos 1) *ℤ n +ℤ pos 0 *ℤ p
-negated_factor p n = omega (arith, sums, neg-mul (pos 1) n, one_mul n, zero_mul p)
+one_negative : (n : ℤ) → pos 0 -ℤ n ≡ negsuc 0 *ℤ n +ℤ pos 0 *ℤ n
+one_negative n = omega (arith, sums, neg-mul (pos 1) n, one_mul n, zero_mul n)
+
+leaving_step : (p s entering t g number q all b : ℤ)
+    → t +ℤ g *ℤ number ≡ all +ℤ q *ℤ entering
+    → g ≡ negsuc 0 *ℤ p +ℤ pos 0 *ℤ p → all ≡ negsuc 0 *ℤ b +ℤ pos 0 *ℤ b → b ≡ s *ℤ entering → q ≡ s
+    → p *ℤ number ≡ t
+leaving_step p s entering t g number q all b sum is_g is_all is_b is_q =
+    let left : g *ℤ number ≡ neg_ℤ (p *ℤ number) = ap (λ (n : ℤ). n *ℤ number) (is_g ∙ sym (one_negative p) ∙ turned p) ∙ neg-mul p number in
+    let right : q *ℤ entering ≡ s *ℤ entering = ap (λ (n : ℤ). n *ℤ entering) is_q in
+    let whole : all ≡ neg_ℤ b = is_all ∙ sym (one_negative b) ∙ turned b in
+    sums_of t (g *ℤ number) all (q *ℤ entering) (p *ℤ number) b (s *ℤ entering) sum left right whole is_b
+  where
+    turned : (n : ℤ) → pos 0 -ℤ n ≡ neg_ℤ n
+    turned n = omega (arith, sums)
+    sums_of : (t gn all qe pn b se : ℤ) → t +ℤ gn ≡ all +ℤ qe → gn ≡ neg_ℤ pn → qe ≡ se → all ≡ neg_ℤ b → b ≡ se → pn ≡ t
+    sums_of t gn all qe pn b se sum is_gn is_qe is_all is_b = omega (arith, sums)
 
 pub leaving_row_is_combination : LeavingRowIsCombination
-leaving_row_is_combination s entering pivot new rows k of_entering h leaving = ?
+leaving_row_is_combination s entering pivot new rows k of_entering h leaving =
+    let p : ℤ = entry pivot k in
+    let g : ℕ → ℤ = λ i. negsuc 0 *ℤ entry pivot i +ℤ pos 0 *ℤ entry pivot i in
+    let pivot_len : length pivot ≡ length rows = of_entering.len in
+    let same_len : length (set rows k entering) ≡ length rows = length-set rows k entering in
+    record {
+      len = leaving.len ∙ pivot_len ∙ sym same_len;
+      each = λ c l.
+        let numbers : List ℤ = column_of rows c in
+        let size : length numbers ≡ length rows = length-map rows (λ (row : List ℤ). entry row c) in
+        let sum : total (entry new) (set numbers k (entry entering c)) +ℤ g k *ℤ get_or numbers k (pos 0) ≡ total g numbers +ℤ entry new k *ℤ entry entering c =
+              total_exchange (entry new) g numbers k (entry entering c) (omega arith) (λ i il apart. leaving.negated i (omega arith) apart ∙ one_negative (entry pivot i)) in
+        ap (λ (n : ℤ). p *ℤ n) (sym (column_at rows k c))
+        ∙ leaving_step p s (entry entering c) (total (entry new) (set numbers k (entry entering c))) (g k) (get_or numbers k (pos 0)) (entry new k) (total g numbers) (total (entry pivot) numbers)
+          sum refl (total_linear (negsuc 0) (pos 0) (entry pivot) (entry pivot) numbers)
+          (sym (dot_is_total pivot numbers) ∙ sym (of_entering.each c (omega arith)))
+          leaving.kept
+        ∙ sym (dot_is_total new (set numbers k (entry entering c)))
+        ∙ ap (dot new) (sym (column-set rows k entering c));
+    }
 
 pub square_row_is_combination : SquareRowIsCombination
-square_row_is_combination s factors rows k h len kept zeros = ?
+square_row_is_combination s factors rows k h len kept zeros = record {
+  len = len;
+  each = λ c l.
+    let numbers : List ℤ = column_of rows c in
+    let size : length numbers ≡ length rows = length-map rows (λ (row : List ℤ). entry row c) in
+    ap (λ (n : ℤ). n *ℤ entry (get_or rows k []) c) (sym kept)
+    ∙ ap (λ (n : ℤ). entry factors k *ℤ n) (sym (column_at rows k c))
+    ∙ sym (total_single (entry factors) numbers k (omega arith) (λ i il apart. zeros i (omega arith) apart))
+    ∙ sym (dot_is_total factors numbers);
+}
 
 pub sum_of_combinations : SumOfCombinations
-sum_of_combinations s x y a b row of_a of_b factors rows comb_a comb_b row_is len factors_are = ?
+sum_of_combinations s x y a b row of_a of_b factors rows comb_a comb_b row_is len factors_are = record {
+  len = len;
+  each = λ c l.
+    let numbers : List ℤ = column_of rows c in
+    let size : length numbers ≡ length rows = length-map rows (λ (row : List ℤ). entry row c) in
+    let sum : total (entry factors) numbers ≡ x *ℤ total (entry of_a) numbers +ℤ y *ℤ total (entry of_b) numbers =
+          total_same (entry factors) (λ i. x *ℤ entry of_a i +ℤ y *ℤ entry of_b i) numbers (λ i il. factors_are i (omega arith)) ∙ total_linear x y (entry of_a) (entry of_b) numbers in
+    joined s x y (entry a c) (entry b c) (entry row c) (total (entry of_a) numbers) (total (entry of_b) numbers) (total (entry factors) numbers)
+        (row_is c l) sum (comb_a.each c l ∙ dot_is_total of_a numbers) (comb_b.each c l ∙ dot_is_total of_b numbers)
+    ∙ sym (dot_is_total factors numbers);
+}
+  where
+    joined : (s x y a b n ta tb t : ℤ) → n ≡ x *ℤ a +ℤ y *ℤ b → t ≡ x *ℤ ta +ℤ y *ℤ tb → s *ℤ a ≡ ta → s *ℤ b ≡ tb → s *ℤ n ≡ t
+    joined s x y a b n ta tb t is_n is_t is_a is_b =
+        ap (λ (m : ℤ). s *ℤ m) is_n ∙ mul-add s (x *ℤ a) (y *ℤ b)
+        ∙ ap (λ (m : ℤ). m +ℤ s *ℤ (y *ℤ b)) (mul_swap s x a ∙ ap (λ (m : ℤ). x *ℤ m) is_a)
+        ∙ ap (λ (m : ℤ). x *ℤ ta +ℤ m) (mul_swap s y b ∙ ap (λ (m : ℤ). y *ℤ m) is_b)
+        ∙ sym is_t
 
 pub negated_combination : NegatedCombination
-negated_combination s row factors rows comb = ?
+negated_combination s row factors rows comb = record {
+  len = length-map factors neg_ℤ ∙ comb.len;
+  each = λ c l. neg-mul s (entry row c) ∙ ap neg_ℤ (comb.each c l) ∙ sym (dot_neg factors (column_of rows c));
+}
 
 pub negated_scale : NegatedScale
-negated_scale s rows scale = ?
+negated_scale s rows scale = record { nonzero = λ e. scale.nonzero (still s e); size = abs-neg s ∙ scale.size }
+  where
+    still : (s : ℤ) → neg_ℤ s ≡ pos 0 → s ≡ pos 0
+    still s e = omega (arith, sums)
+
+-- ---- the bound
+
+at_last : (order most c : ℕ) → c + 1 ≡ order → cond (eqb (c + 1) order) most 1 ≡ most
+at_last order most c e = grind (arith, nat_tests)
+
+before_last : (order most c : ℕ) → c + 1 ≢ order → cond (eqb (c + 1) order) most 1 ≡ 1
+before_last order most c e = grind (arith, nat_tests)
+
+small_entry : (order most c : ℕ) (row : List ℤ) → HasSmallEntries order most row → c < order → unsigned_abs (entry row c) ≤ last_most order most c
+small_entry order most c row small h =
+    elim (cases_eq (c + 1) order) [
+      inl e ↦ subst (λ n. unsigned_abs (entry row c) ≤ n) (sym (at_last order most c e)) (small.last c e)
+    | inr ne ↦ subst (λ n. unsigned_abs (entry row c) ≤ n) (sym (before_last order most c ne)) (small.plain c (omega arith))
+    ]
 
 pub minor_is_bounded : MinorIsBounded
-minor_is_bounded rows most h small = ?
+minor_is_bounded rows most h small =
+    let R : List (ℕ → ℤ) = map entry rows in
+    let n : ℕ = length rows in
+    let len : length R ≡ n = length-map rows entry in
+    let cols : List ℕ = columns_of rows in
+    let cols_len : length cols ≡ n = length-range_with_len 0 n in
+    let bound : unsigned_abs (minor_at R cols) ≤ factorial (length R) * product_of (last_most n most) cols =
+          minor_at_bound (λ c. c < n) (last_most n most) R cols
+              (λ i c l inside. subst (λ (z : ℤ). unsigned_abs z ≤ last_most n most c) (sym (row_at rows i c)) (small_entry n most c (get_or rows i []) (small i [] (omega arith)) inside))
+              (in_square rows) (cols_len ∙ sym len) in
+    let product : product_of (last_most n most) cols ≤ most = product_of_range n most 0 n h (omega arith) in
+    within (unsigned_abs (minor rows)) (factorial (length R)) (factorial n) (product_of (last_most n most) cols) most
+        (subst (λ (z : ℤ). unsigned_abs z ≤ factorial (length R) * product_of (last_most n most) cols) (sym (minor-is rows)) bound) (ap factorial len) product
+  where
+    within : (z f g p m : ℕ) → z ≤ f * p → f ≡ g → p ≤ m → z ≤ m * g
+    within z f g p m h e k = let b : g * p ≤ g * m = mul-le-mul (omega arith) k in let c : z ≤ g * p = subst (λ x. z ≤ x * p) e h in omega arith
 
 pub factor_is_bounded : FactorIsBounded
-factor_is_bounded s row factors rows k most scale comb h small row_small = ?
+factor_is_bounded s row factors rows k most scale comb h small row_small =
+    elim (cases_lt k (length rows)) [
+      inl inside ↦ subst (λ n. n ≤ most * factorial (length rows)) (sym (factor_is_minor s row factors rows k scale comb inside)) (replaced inside)
+    | inr past ↦
+        let len : length factors ≡ length rows = comb.len in
+        let none : entry factors k ≡ pos 0 = get_or_past factors k (pos 0) (omega arith) in
+        subst (λ (z : ℤ). unsigned_abs z ≤ most * factorial (length rows)) (sym none) (omega arith)
+    ]
+  where
+    order : length (set rows k row) ≡ length rows
+    order = length-set rows k row
+    each : (i : ℕ) (d : List ℤ) → i < length (set rows k row) → HasSmallEntries (length rows) most (get_or (set rows k row) i d)
+    each i d l =
+        elim (cases_eq i k) [
+          inl e ↦ subst (HasSmallEntries (length rows) most) (sym (ap (λ j. get_or (set rows k row) j d) e ∙ get_or-set_same rows k row d (omega (arith, order)))) row_small
+        | inr ne ↦ subst (HasSmallEntries (length rows) most) (sym (get_or-set_other rows k i row d ne)) (small i d (omega (arith, order)))
+        ]
+    replaced : k < length rows → unsigned_abs (minor (set rows k row)) ≤ most * factorial (length rows)
+    replaced inside =
+        subst (λ n. unsigned_abs (minor (set rows k row)) ≤ most * factorial n) order
+            (minor_is_bounded (set rows k row) most h (λ i d l. subst (λ n. HasSmallEntries n most (get_or (set rows k row) i d)) (sym order) (each i d l)))
 
 pub bound_is_small : BoundIsSmall
-bound_is_small = ?
+bound_is_small = (λ order h. at order h, below_power)
+  where
+    at : (order : ℕ) → order ≤ 25 → 25 * factorial order ≤ 25 * factorial 25
+    at order h =
+        let e : order + (25 - order) ≡ 25 = omega arith in
+        let grown : factorial order ≤ factorial 25 = subst (λ n. factorial order ≤ factorial n) e (factorial_mono order (25 - order)) in
+        omega arith
