@@ -1,5 +1,5 @@
 -- The size of a minor whose columns are bounded: at most n! times the product of the columns' bounds.
-use Rattle.std.proofs.Common.{◌≡◌, ◌≢◌, ◌⊎◌, inl, inr, ℕ, zero, suc, ◌+◌, ◌*◌, ◌^◌, ◌<◌, ◌≤◌, ℤ, pos, negsuc, ◌+ℤ◌, ◌-ℤ◌, ◌*ℤ◌, neg_ℤ, unsigned_abs, List, [], ◌∷◌, length, get_or, set, map, cond, Bool, true, false, eqb, refl, sym, ap, subst, ◌∙◌, arith, lit<}
+use Rattle.std.proofs.Common.{◌≡◌, ℕ, zero, suc, ◌+◌, ◌*◌, ◌^◌, ◌<◌, ◌≤◌, ℤ, ◌-ℤ◌, ◌*ℤ◌, unsigned_abs, List, [], ◌∷◌, length, get_or, cond, Bool, true, false, eqb, refl, sym, ap, subst, arith, lit<}
 use Rattle.std.proofs.Math.Nat.{mul-le-mul}
 use Rattle.std.specs.List.{range_with_len, AllByRecursion}
 use Rattle.std.proofs.lemmas.Int.{unsigned_abs-mul}
@@ -29,11 +29,11 @@ unfolding expansion
 expansion_bound P most row rest k [] entries small all = omega arith
 expansion_bound P most row rest k (c ∷ columns) entries small all =
     bound_step (row c) (rest columns) (expansion row (λ others. rest (c ∷ others)) columns) (most c) k (product_of most columns) (length columns)
-        (entries c all.0)
-        (small columns all.1 refl)
-        (expansion_bound P most row (λ others. rest (c ∷ others)) (k * most c) columns entries
-            (λ others each len. regroup (rest (c ∷ others)) k (most c) (product_of most others) (small (c ∷ others) (all.0, each) (ap suc len)))
-            all.1)
+    (entries c all.0)
+    (small columns all.1 refl)
+    (expansion_bound P most row (λ others. rest (c ∷ others)) (k * most c) columns entries
+    (λ others each len. regroup (rest (c ∷ others)) k (most c) (product_of most others) (small (c ∷ others) (all.0, each) (ap suc len)))
+    all.1)
   where
     regroup : (z : ℤ) (k w p : ℕ) → unsigned_abs z ≤ k * (w * p) → unsigned_abs z ≤ (k * w) * p
     regroup z k w p h = omega arith
@@ -48,8 +48,8 @@ minor_at_bound P most [] (c ∷ columns) entries all len = absurd (omega arith)
 minor_at_bound P most (r ∷ rows) columns entries all len =
     let n : ℕ = length rows in
     let bound : unsigned_abs (expansion r (minor_at rows) columns) ≤ length columns * (factorial n * product_of most columns) =
-          expansion_bound P most r (minor_at rows) (factorial n) columns (λ c p. entries 0 c (omega arith) p)
-              (λ others each l. minor_at_bound P most rows others (λ i c k p. entries (suc i) c (omega arith) p) each (omega arith)) all in
+    expansion_bound P most r (minor_at rows) (factorial n) columns (λ c p. entries 0 c (omega arith) p)
+    (λ others each l. minor_at_bound P most rows others (λ i c k p. entries (suc i) c (omega arith) p) each (omega arith)) all in
     regroup (unsigned_abs (expansion r (minor_at rows) columns)) (length columns) n (factorial n) (product_of most columns) len bound
   where
     regroup : (z l n f p : ℕ) → l ≡ suc n → z ≤ l * (f * p) → z ≤ (suc n * f) * p

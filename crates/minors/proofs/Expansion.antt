@@ -1,8 +1,7 @@
 -- Laplace's expansion: linear in its row and in what is left, turned in sign where two rows change places, and 0 at two equal rows.
-use Rattle.std.proofs.Common.{◌≡◌, ◌≢◌, ℕ, zero, suc, ◌+◌, ◌*◌, ◌<◌, ◌≤◌, ℤ, pos, negsuc, ◌+ℤ◌, ◌-ℤ◌, ◌*ℤ◌, neg_ℤ, unsigned_abs, List, [], ◌∷◌, refl, sym, ap, ◌∙◌, arith}
-use mathlib.Core.Path.{fun_ext}
+use Rattle.std.proofs.Common.{◌≡◌, ℕ, ℤ, pos, ◌+ℤ◌, ◌-ℤ◌, ◌*ℤ◌, List, [], ◌∷◌, refl, ap, ◌∙◌, arith}
 use Rattle.minors.specs.Minor.{expansion}
-use Rattle.minors.proofs.Ring.{sums, mul-add, add-mul, mul-sub, mul_assoc, mul_swap, zero_mul, mul_zero}
+use Rattle.minors.proofs.Ring.{sums, mul-add, add-mul, mul-sub, mul_assoc, mul_swap, mul_zero}
 
 row_step : (x y a b f p q : ℤ) → (x *ℤ a +ℤ y *ℤ b) *ℤ f -ℤ (x *ℤ p +ℤ y *ℤ q) ≡ x *ℤ (a *ℤ f -ℤ p) +ℤ y *ℤ (b *ℤ f -ℤ q)
 row_step x y a b f p q = omega (arith, sums, add-mul (x *ℤ a) (y *ℤ b) f, mul_assoc x a f, mul_assoc y b f, mul-sub x (a *ℤ f) p, mul-sub y (b *ℤ f) q)

@@ -1,19 +1,18 @@
 -- The laws of minors of squares.
-use Rattle.std.proofs.Common.{◌≡◌, ◌≢◌, ◌⊎◌, inl, inr, ℕ, zero, suc, ◌+◌, ◌-◌, ◌*◌, ◌<◌, ◌≤◌, cond, eqb, ℤ, pos, negsuc, ◌+ℤ◌, ◌-ℤ◌, ◌*ℤ◌, neg_ℤ, unsigned_abs, List, [], ◌∷◌, length, get_or, set, map, All, refl, sym, ap, subst, ◌∙◌, arith}
+use Rattle.std.proofs.Common.{◌≡◌, ◌≢◌, inl, inr, ℕ, ◌+◌, ◌-◌, ◌*◌, ◌<◌, ◌≤◌, cond, eqb, ℤ, pos, negsuc, ◌+ℤ◌, ◌-ℤ◌, ◌*ℤ◌, neg_ℤ, unsigned_abs, List, [], ◌∷◌, length, get_or, set, map, refl, sym, ap, subst, ◌∙◌, arith}
 use Rattle.std.proofs.Math.IntN.{*ℤ_comm, +ℤ_idr}
 use Rattle.std.proofs.Math.ListN.{get_or-map as get_or-map_default}
-use Rattle.std.proofs.lemmas.List.{set-get_or, get_or-set_same, get_or-set_other, length-set, map-set, length-map, get_or-map, get_or_past}
+use Rattle.std.proofs.lemmas.List.{get_or-set_same, get_or-set_other, length-set, map-set, length-map, get_or-map, get_or_past}
 use Rattle.std.proofs.lemmas.List.FromFn.{length-range_with_len, length-map-range_with_len, get_or-map-range_with_len}
 use Rattle.std.specs.List.{range_with_len, AllByRecursion}
 use Rattle.std.proofs.Math.Nat.{mul-le-mul}
 use Rattle.std.proofs.lemmas.Bool.{cases_eq, cases_lt}
 use Rattle.std.proofs.lemmas.Bool.Decides.{nat_tests}
 use Rattle.std.proofs.lemmas.Int.{unsigned_abs-mul}
-use mathlib.Core.Path.{fun_ext}
-use Rattle.minors.specs.Minor.{entry, minor, minor_at, factorial, IsUnit, HasSmallEntries}
-use Rattle.minors.specs.Combination.{dot, column_of, IsCombination, IsScale, IsPivoted, IsLeaving}
-use Rattle.minors.specs.Laws.{LinearInEachRow, ZeroAtEqualRows, OneAtIdentity, ScaleOfIdentity, ReplacedRow, FactorIsMinor, ScaleAfterPivot, PivotDivides, PivotKeepsCombination, LeavingRowIsCombination, SquareRowIsCombination, SumOfCombinations, NegatedCombination, NegatedScale, MinorIsBounded, FactorIsBounded, BoundIsSmall}
-use Rattle.minors.proofs.Ring.{sums, mul-add, add-mul, mul-sub, mul_assoc, mul_swap, zero_mul, mul_zero, one_mul, neg-mul, mul-neg, cancel, cancel_ℕ, abs_positive, same_size, abs-neg}
+use Rattle.minors.specs.Minor.{entry, minor, minor_at, factorial, HasSmallEntries}
+use Rattle.minors.specs.Combination.{dot, column_of, IsCombination}
+use Rattle.minors.specs.Laws.{LinearInEachRow, ZeroAtEqualRows, OneAtIdentity, ScaleOfIdentity, ReplacedRow, FactorIsMinor, ScaleAfterPivot, PivotDivides, PivotKeepsCombination, LeavingRowIsCombination, SquareRowIsCombination, SumOfCombinations, NegatedCombination, NegatedScale, MinorIsBounded, FactorIsBounded, ScaleIsBounded, BoundIsSmall}
+use Rattle.minors.proofs.Ring.{sums, mul-add, mul_assoc, mul_swap, zero_mul, one_mul, neg-mul, mul-neg, cancel, cancel_ℕ, abs_positive, same_size, abs-neg}
 use Rattle.minors.proofs.MinorAt.{nothing, minor_at_linear, minor_at_equal, minor_at_replaced, minor_at_within, all_in_range, minor_at_identity, sum_of_rows}
 use Rattle.minors.proofs.Bound.{minor_at_bound, product_of_range, last_most, product_of, factorial_mono, below_power}
 use Rattle.minors.proofs.Total.{total, dot_is_total, total_same, total_linear, total_exchange, total_single, dot_neg}
@@ -47,7 +46,7 @@ unfolding minor
 zero_at_equal_rows rows i j h k e =
     let len : length (map entry rows) ≡ length rows = length-map rows entry in
     minor_at_equal (map entry rows) i j (columns_of rows) h (omega arith)
-        (get_or-map_default entry rows i [] ∙ ap entry e ∙ sym (get_or-map_default entry rows j []))
+    (get_or-map_default entry rows i [] ∙ ap entry e ∙ sym (get_or-map_default entry rows j []))
 
 minor-is : (rows : List (List ℤ)) → minor rows ≡ minor_at (map entry rows) (columns_of rows)
 unfolding minor
@@ -64,8 +63,8 @@ one_at_identity rows unit =
     minor-is rows
     ∙ ap (λ n. minor_at R (range_with_len 0 n)) (sym len)
     ∙ minor_at_identity R 0
-        (λ i l. let inside : i < length rows = omega arith in row_at rows i (0 + i) ∙ ap (entry (get_or rows i [])) (from i) ∙ (unit i inside).one inside)
-        (λ i j l k ne. let inside : i < length rows = omega arith in row_at rows i (0 + j) ∙ ap (entry (get_or rows i [])) (from j) ∙ (unit i inside).zeros j (omega arith) ne)
+    (λ i l. let inside : i < length rows = omega arith in row_at rows i (0 + i) ∙ ap (entry (get_or rows i [])) (from i) ∙ (unit i inside).one inside)
+    (λ i j l k ne. let inside : i < length rows = omega arith in row_at rows i (0 + j) ∙ ap (entry (get_or rows i [])) (from j) ∙ (unit i inside).zeros j (omega arith) ne)
 
 pub scale_of_identity : ScaleOfIdentity
 scale_of_identity rows unit = record { nonzero = λ e. one_apart e; size = ap unsigned_abs (sym (one_at_identity rows unit)) }
@@ -90,8 +89,8 @@ replaced_row s row factors rows k comb h =
     let cols : List ℕ = columns_of rows in
     let times : ℕ → ℤ = λ c. s *ℤ entry row c +ℤ pos 0 *ℤ nothing c in
     let within : minor_at (set R k times) cols ≡ minor_at (set R k (sum_of_rows factors R)) cols =
-          minor_at_within (λ c. c < length rows) R k times (sum_of_rows factors R) cols (in_square rows)
-              (λ c l. +ℤ_idr (s *ℤ entry row c) ∙ comb.each c l ∙ ap (dot factors) (sym (columns_map rows c))) in
+    minor_at_within (λ c. c < length rows) R k times (sum_of_rows factors R) cols (in_square rows)
+    (λ c l. +ℤ_idr (s *ℤ entry row c) ∙ comb.each c l ∙ ap (dot factors) (sym (columns_map rows c))) in
     ap (λ (n : ℤ). s *ℤ n) (minor-set rows k row)
     ∙ scaled s (minor_at (set R k (entry row)) cols) (minor_at (set R k nothing) cols) (minor_at (set R k times) cols) (minor_at_linear R k s (pos 0) (entry row) nothing cols (omega arith))
     ∙ within
@@ -101,7 +100,7 @@ replaced_row s row factors rows k comb h =
 same_factor : (s m f d : ℤ) → s ≢ pos 0 → unsigned_abs s ≡ unsigned_abs d → s *ℤ m ≡ f *ℤ d → unsigned_abs f ≡ unsigned_abs m
 same_factor s m f d ne size e =
     let sizes : unsigned_abs s * unsigned_abs f ≡ unsigned_abs s * unsigned_abs m =
-          ap (λ n. n * unsigned_abs f) size ∙ comm (unsigned_abs d) (unsigned_abs f) ∙ sym (unsigned_abs-mul f d) ∙ ap unsigned_abs (sym e) ∙ unsigned_abs-mul s m in
+    ap (λ n. n * unsigned_abs f) size ∙ comm (unsigned_abs d) (unsigned_abs f) ∙ sym (unsigned_abs-mul f d) ∙ ap unsigned_abs (sym e) ∙ unsigned_abs-mul s m in
     cancel_ℕ (unsigned_abs s) (unsigned_abs f) (unsigned_abs m) (abs_positive s ne) sizes
   where
     comm : (a b : ℕ) → a * b ≡ b * a
@@ -132,11 +131,11 @@ exchange_step : (p s r row entering t g number q all a b : ℤ)
 exchange_step p s r row entering t g number q all a b sum is_g is_all is_a is_b is_q =
     let none : g ≡ pos 0 = omega (arith, sums, is_g, *ℤ_comm p r, neg-mul r p) in
     exchange_sums t (g *ℤ number) all (q *ℤ entering) (p *ℤ a) (neg_ℤ r *ℤ b) ((p *ℤ s) *ℤ row) (r *ℤ (s *ℤ entering)) sum
-        (ap (λ (n : ℤ). n *ℤ number) none ∙ zero_mul number)
-        is_all
-        (ap (λ (n : ℤ). p *ℤ n) is_a ∙ sym (mul_assoc p s row))
-        (ap (λ (n : ℤ). neg_ℤ r *ℤ n) is_b ∙ neg-mul r (s *ℤ entering))
-        (ap (λ (n : ℤ). n *ℤ entering) (is_q ∙ *ℤ_comm s r) ∙ mul_assoc r s entering)
+    (ap (λ (n : ℤ). n *ℤ number) none ∙ zero_mul number)
+    is_all
+    (ap (λ (n : ℤ). p *ℤ n) is_a ∙ sym (mul_assoc p s row))
+    (ap (λ (n : ℤ). neg_ℤ r *ℤ n) is_b ∙ neg-mul r (s *ℤ entering))
+    (ap (λ (n : ℤ). n *ℤ entering) (is_q ∙ *ℤ_comm s r) ∙ mul_assoc r s entering)
 
 difference : (p r q n : ℤ) → p *ℤ r -ℤ q *ℤ n ≡ p *ℤ r +ℤ neg_ℤ q *ℤ n
 difference p r q n = omega (arith, sums, neg-mul q n)
@@ -154,18 +153,18 @@ exchange s entering pivot row factors new rows k of_entering of_row h len kept o
     record {
       len = len ∙ sym same_len;
       each = λ c l.
-        let numbers : List ℤ = column_of rows c in
-        let size : length numbers ≡ length rows = length-map rows (λ (row : List ℤ). entry row c) in
-        let inside : c < length rows = omega arith in
-        let sum : total (entry new) (set numbers k (entry entering c)) +ℤ g k *ℤ get_or numbers k (pos 0) ≡ total g numbers +ℤ entry new k *ℤ entry entering c =
-              total_exchange (entry new) g numbers k (entry entering c) (omega arith) (λ i il ne. let il' : i < length rows = omega arith in others i il' ne ∙ difference p (entry factors i) r (entry pivot i)) in
-        exchange_step p s r (entry row c) (entry entering c) (total (entry new) (set numbers k (entry entering c))) (g k) (get_or numbers k (pos 0)) (entry new k) (total g numbers) (total (entry factors) numbers) (total (entry pivot) numbers)
+          let numbers : List ℤ = column_of rows c in
+          let size : length numbers ≡ length rows = length-map rows (λ (row : List ℤ). entry row c) in
+          let inside : c < length rows = omega arith in
+          let sum : total (entry new) (set numbers k (entry entering c)) +ℤ g k *ℤ get_or numbers k (pos 0) ≡ total g numbers +ℤ entry new k *ℤ entry entering c =
+          total_exchange (entry new) g numbers k (entry entering c) (omega arith) (λ i il ne. let il' : i < length rows = omega arith in others i il' ne ∙ difference p (entry factors i) r (entry pivot i)) in
+          exchange_step p s r (entry row c) (entry entering c) (total (entry new) (set numbers k (entry entering c))) (g k) (get_or numbers k (pos 0)) (entry new k) (total g numbers) (total (entry factors) numbers) (total (entry pivot) numbers)
           sum refl (total_linear p (neg_ℤ r) (entry factors) (entry pivot) numbers)
           (sym (dot_is_total factors numbers) ∙ sym (of_row.each c inside))
           (sym (dot_is_total pivot numbers) ∙ sym (of_entering.each c inside))
           kept
-        ∙ sym (dot_is_total new (set numbers k (entry entering c)))
-        ∙ ap (dot new) (sym (column-set rows k entering c));
+          ∙ sym (dot_is_total new (set numbers k (entry entering c)))
+          ∙ ap (dot new) (sym (column-set rows k entering c));
     }
 
 -- ---- the exact division
@@ -174,16 +173,16 @@ quotient_of : (p s d e m q : ℤ) → s ≢ pos 0 → p ≢ pos 0 → unsigned_a
     → (quotient : ℤ) × (quotient *ℤ s ≡ q) × (unsigned_abs quotient ≡ unsigned_abs m)
 quotient_of p s d e m q nonzero ne size minors replaced =
     elim (same_size s d size) [
-      inl same ↦
-        let is_e : e ≡ p = cancel s e p nonzero (minors ∙ ap (λ (n : ℤ). p *ℤ n) (sym same) ∙ *ℤ_comm p s) in
-        let scaled : p *ℤ (s *ℤ m) ≡ p *ℤ q = sym (mul_assoc p s m) ∙ replaced ∙ ap (λ (n : ℤ). q *ℤ n) is_e ∙ *ℤ_comm q p in
-        (m, *ℤ_comm m s ∙ cancel p (s *ℤ m) q ne scaled, refl)
-    | inr turned ↦
-        let is_d : d ≡ neg_ℤ s = omega (arith, sums) in
-        let is_e : e ≡ neg_ℤ p = cancel s e (neg_ℤ p) nonzero (minors ∙ ap (λ (n : ℤ). p *ℤ n) is_d ∙ mul-neg p s ∙ ap neg_ℤ (*ℤ_comm p s) ∙ sym (mul-neg s p)) in
-        let scaled : p *ℤ (s *ℤ m) ≡ p *ℤ neg_ℤ q = sym (mul_assoc p s m) ∙ replaced ∙ ap (λ (n : ℤ). q *ℤ n) is_e ∙ mul-neg q p ∙ ap neg_ℤ (*ℤ_comm q p) ∙ sym (mul-neg p q) in
-        let is_q : s *ℤ m ≡ neg_ℤ q = cancel p (s *ℤ m) (neg_ℤ q) ne scaled in
-        (neg_ℤ m, neg-mul m s ∙ ap neg_ℤ (*ℤ_comm m s ∙ is_q) ∙ twice q, abs-neg m)
+      | inl same ↦
+          let is_e : e ≡ p = cancel s e p nonzero (minors ∙ ap (λ (n : ℤ). p *ℤ n) (sym same) ∙ *ℤ_comm p s) in
+          let scaled : p *ℤ (s *ℤ m) ≡ p *ℤ q = sym (mul_assoc p s m) ∙ replaced ∙ ap (λ (n : ℤ). q *ℤ n) is_e ∙ *ℤ_comm q p in
+          (m, *ℤ_comm m s ∙ cancel p (s *ℤ m) q ne scaled, refl)
+      | inr turned ↦
+          let is_d : d ≡ neg_ℤ s = omega (arith, sums) in
+          let is_e : e ≡ neg_ℤ p = cancel s e (neg_ℤ p) nonzero (minors ∙ ap (λ (n : ℤ). p *ℤ n) is_d ∙ mul-neg p s ∙ ap neg_ℤ (*ℤ_comm p s) ∙ sym (mul-neg s p)) in
+          let scaled : p *ℤ (s *ℤ m) ≡ p *ℤ neg_ℤ q = sym (mul_assoc p s m) ∙ replaced ∙ ap (λ (n : ℤ). q *ℤ n) is_e ∙ mul-neg q p ∙ ap neg_ℤ (*ℤ_comm q p) ∙ sym (mul-neg p q) in
+          let is_q : s *ℤ m ≡ neg_ℤ q = cancel p (s *ℤ m) (neg_ℤ q) ne scaled in
+          (neg_ℤ m, neg-mul m s ∙ ap neg_ℤ (*ℤ_comm m s ∙ is_q) ∙ twice q, abs-neg m)
     ]
   where
     twice : (n : ℤ) → neg_ℤ (neg_ℤ n) ≡ n
@@ -202,10 +201,10 @@ pivot_divides s entering pivot row factors rows k other scale of_entering of_row
     let square : List (List ℤ) = set rows k entering in
     let square_len : length square ≡ n = length-set rows k entering in
     let comb : IsCombination (p *ℤ s) row new square =
-          exchange s entering pivot row factors new rows k of_entering of_row h (length-set plain k (s *ℤ r) ∙ plain_len) (get_or-set_same plain k (s *ℤ r) (pos 0) (omega arith)) at in
+    exchange s entering pivot row factors new rows k of_entering of_row h (length-set plain k (s *ℤ r) ∙ plain_len) (get_or-set_same plain k (s *ℤ r) (pos 0) (omega arith)) at in
     quotient_of p s (minor rows) (minor square) (minor (set square other row)) (g other) scale.nonzero nonzero scale.size
-        (replaced_row s entering pivot rows k of_entering h)
-        (replaced_row (p *ℤ s) row new square other comb (omega arith) ∙ ap (λ (x : ℤ). x *ℤ minor square) (at other l ne))
+    (replaced_row s entering pivot rows k of_entering h)
+    (replaced_row (p *ℤ s) row new square other comb (omega arith) ∙ ap (λ (x : ℤ). x *ℤ minor square) (at other l ne))
 
 pub pivot_keeps_combination : PivotKeepsCombination
 pivot_keeps_combination s entering pivot row factors new rows k nonzero of_entering of_row h pivoted =
@@ -215,23 +214,24 @@ pivot_keeps_combination s entering pivot row factors new rows k nonzero of_enter
     let factors_len : length factors ≡ length rows = of_row.len in
     let at : (i : ℕ) → i < length rows → entry multiple i ≡ entry new i *ℤ s = λ i il. get_or-map (λ x. x *ℤ s) new i (pos 0) (pos 0) (omega arith) in
     let comb : IsCombination (p *ℤ s) row multiple (set rows k entering) =
-          exchange s entering pivot row factors multiple rows k of_entering of_row h (length-map new (λ x. x *ℤ s) ∙ new_len)
-              (at k h ∙ ap (λ (x : ℤ). x *ℤ s) pivoted.kept ∙ *ℤ_comm (entry factors k) s)
-              (λ i il apart. at i il ∙ pivoted.divided i (omega arith) apart) in
+    exchange s entering pivot row factors multiple rows k of_entering of_row h (length-map new (λ x. x *ℤ s) ∙ new_len)
+    (at k h ∙ ap (λ (x : ℤ). x *ℤ s) pivoted.kept ∙ *ℤ_comm (entry factors k) s)
+    (λ i il apart. at i il ∙ pivoted.divided i (omega arith) apart) in
     let same_len : length (set rows k entering) ≡ length rows = length-set rows k entering in
     record {
       len = new_len ∙ sym same_len;
       each = λ c l.
-        let numbers : List ℤ = column_of (set rows k entering) c in
-        let size : length numbers ≡ length (set rows k entering) = length-map (set rows k entering) (λ (row : List ℤ). entry row c) in
-        let sum : total (entry multiple) numbers ≡ s *ℤ total (entry new) numbers +ℤ pos 0 *ℤ total (entry new) numbers =
-              total_same (entry multiple) (λ i. s *ℤ entry new i +ℤ pos 0 *ℤ entry new i) numbers (λ i il. at i (omega arith) ∙ widened s (entry new i)) ∙ total_linear s (pos 0) (entry new) (entry new) numbers in
-        divided p s (entry row c) (dot multiple numbers) (total (entry multiple) numbers) (total (entry new) numbers) nonzero (comb.each c l) (dot_is_total multiple numbers) sum
-        ∙ sym (dot_is_total new numbers);
+          let numbers : List ℤ = column_of (set rows k entering) c in
+          let size : length numbers ≡ length (set rows k entering) = length-map (set rows k entering) (λ (row : List ℤ). entry row c) in
+          let sum : total (entry multiple) numbers ≡ s *ℤ total (entry new) numbers +ℤ pos 0 *ℤ total (entry new) numbers =
+          total_same (entry multiple) (λ i. s *ℤ entry new i +ℤ pos 0 *ℤ entry new i) numbers (λ i il. at i (omega arith) ∙ widened s (entry new i)) ∙ total_linear s (pos 0) (entry new) (entry new) numbers in
+          divided p s (entry row c) (dot multiple numbers) (total (entry multiple) numbers) (total (entry new) numbers) nonzero (comb.each c l) (dot_is_total multiple numbers) sum
+          ∙ sym (dot_is_total new numbers);
     }
   where
     widened : (s n : ℤ) → n *ℤ s ≡ s *ℤ n +ℤ pos 0 *ℤ n
     widened s n = omega (arith, sums, *ℤ_comm n s, zero_mul n)
+
     divided : (p s row d m t : ℤ) → s ≢ pos 0 → (p *ℤ s) *ℤ row ≡ d → d ≡ m → m ≡ s *ℤ t +ℤ pos 0 *ℤ t → p *ℤ row ≡ t
     divided p s row d m t nonzero e same sum = cancel s (p *ℤ row) t nonzero (sym (ap (λ (n : ℤ). n *ℤ row) (*ℤ_comm p s) ∙ mul_assoc s p row) ∙ e ∙ same ∙ sum ∙ omega (arith, sums, zero_mul t))
 
@@ -252,6 +252,7 @@ leaving_step p s entering t g number q all b sum is_g is_all is_b is_q =
   where
     turned : (n : ℤ) → pos 0 -ℤ n ≡ neg_ℤ n
     turned n = omega (arith, sums)
+
     sums_of : (t gn all qe pn b se : ℤ) → t +ℤ gn ≡ all +ℤ qe → gn ≡ neg_ℤ pn → qe ≡ se → all ≡ neg_ℤ b → b ≡ se → pn ≡ t
     sums_of t gn all qe pn b se sum is_gn is_qe is_all is_b = omega (arith, sums)
 
@@ -264,42 +265,42 @@ leaving_row_is_combination s entering pivot new rows k of_entering h leaving =
     record {
       len = leaving.len ∙ pivot_len ∙ sym same_len;
       each = λ c l.
-        let numbers : List ℤ = column_of rows c in
-        let size : length numbers ≡ length rows = length-map rows (λ (row : List ℤ). entry row c) in
-        let sum : total (entry new) (set numbers k (entry entering c)) +ℤ g k *ℤ get_or numbers k (pos 0) ≡ total g numbers +ℤ entry new k *ℤ entry entering c =
-              total_exchange (entry new) g numbers k (entry entering c) (omega arith) (λ i il apart. leaving.negated i (omega arith) apart ∙ one_negative (entry pivot i)) in
-        ap (λ (n : ℤ). p *ℤ n) (sym (column_at rows k c))
-        ∙ leaving_step p s (entry entering c) (total (entry new) (set numbers k (entry entering c))) (g k) (get_or numbers k (pos 0)) (entry new k) (total g numbers) (total (entry pivot) numbers)
+          let numbers : List ℤ = column_of rows c in
+          let size : length numbers ≡ length rows = length-map rows (λ (row : List ℤ). entry row c) in
+          let sum : total (entry new) (set numbers k (entry entering c)) +ℤ g k *ℤ get_or numbers k (pos 0) ≡ total g numbers +ℤ entry new k *ℤ entry entering c =
+          total_exchange (entry new) g numbers k (entry entering c) (omega arith) (λ i il apart. leaving.negated i (omega arith) apart ∙ one_negative (entry pivot i)) in
+          ap (λ (n : ℤ). p *ℤ n) (sym (column_at rows k c))
+          ∙ leaving_step p s (entry entering c) (total (entry new) (set numbers k (entry entering c))) (g k) (get_or numbers k (pos 0)) (entry new k) (total g numbers) (total (entry pivot) numbers)
           sum refl (total_linear (negsuc 0) (pos 0) (entry pivot) (entry pivot) numbers)
           (sym (dot_is_total pivot numbers) ∙ sym (of_entering.each c (omega arith)))
           leaving.kept
-        ∙ sym (dot_is_total new (set numbers k (entry entering c)))
-        ∙ ap (dot new) (sym (column-set rows k entering c));
+          ∙ sym (dot_is_total new (set numbers k (entry entering c)))
+          ∙ ap (dot new) (sym (column-set rows k entering c));
     }
 
 pub square_row_is_combination : SquareRowIsCombination
 square_row_is_combination s factors rows k h len kept zeros = record {
   len = len;
   each = λ c l.
-    let numbers : List ℤ = column_of rows c in
-    let size : length numbers ≡ length rows = length-map rows (λ (row : List ℤ). entry row c) in
-    ap (λ (n : ℤ). n *ℤ entry (get_or rows k []) c) (sym kept)
-    ∙ ap (λ (n : ℤ). entry factors k *ℤ n) (sym (column_at rows k c))
-    ∙ sym (total_single (entry factors) numbers k (omega arith) (λ i il apart. zeros i (omega arith) apart))
-    ∙ sym (dot_is_total factors numbers);
+      let numbers : List ℤ = column_of rows c in
+      let size : length numbers ≡ length rows = length-map rows (λ (row : List ℤ). entry row c) in
+      ap (λ (n : ℤ). n *ℤ entry (get_or rows k []) c) (sym kept)
+      ∙ ap (λ (n : ℤ). entry factors k *ℤ n) (sym (column_at rows k c))
+      ∙ sym (total_single (entry factors) numbers k (omega arith) (λ i il apart. zeros i (omega arith) apart))
+      ∙ sym (dot_is_total factors numbers);
 }
 
 pub sum_of_combinations : SumOfCombinations
 sum_of_combinations s x y a b row of_a of_b factors rows comb_a comb_b row_is len factors_are = record {
   len = len;
   each = λ c l.
-    let numbers : List ℤ = column_of rows c in
-    let size : length numbers ≡ length rows = length-map rows (λ (row : List ℤ). entry row c) in
-    let sum : total (entry factors) numbers ≡ x *ℤ total (entry of_a) numbers +ℤ y *ℤ total (entry of_b) numbers =
-          total_same (entry factors) (λ i. x *ℤ entry of_a i +ℤ y *ℤ entry of_b i) numbers (λ i il. factors_are i (omega arith)) ∙ total_linear x y (entry of_a) (entry of_b) numbers in
-    joined s x y (entry a c) (entry b c) (entry row c) (total (entry of_a) numbers) (total (entry of_b) numbers) (total (entry factors) numbers)
-        (row_is c l) sum (comb_a.each c l ∙ dot_is_total of_a numbers) (comb_b.each c l ∙ dot_is_total of_b numbers)
-    ∙ sym (dot_is_total factors numbers);
+      let numbers : List ℤ = column_of rows c in
+      let size : length numbers ≡ length rows = length-map rows (λ (row : List ℤ). entry row c) in
+      let sum : total (entry factors) numbers ≡ x *ℤ total (entry of_a) numbers +ℤ y *ℤ total (entry of_b) numbers =
+      total_same (entry factors) (λ i. x *ℤ entry of_a i +ℤ y *ℤ entry of_b i) numbers (λ i il. factors_are i (omega arith)) ∙ total_linear x y (entry of_a) (entry of_b) numbers in
+      joined s x y (entry a c) (entry b c) (entry row c) (total (entry of_a) numbers) (total (entry of_b) numbers) (total (entry factors) numbers)
+      (row_is c l) sum (comb_a.each c l ∙ dot_is_total of_a numbers) (comb_b.each c l ∙ dot_is_total of_b numbers)
+      ∙ sym (dot_is_total factors numbers);
 }
   where
     joined : (s x y a b n ta tb t : ℤ) → n ≡ x *ℤ a +ℤ y *ℤ b → t ≡ x *ℤ ta +ℤ y *ℤ tb → s *ℤ a ≡ ta → s *ℤ b ≡ tb → s *ℤ n ≡ t
@@ -332,8 +333,8 @@ before_last order most c e = grind (arith, nat_tests)
 small_entry : (order most c : ℕ) (row : List ℤ) → HasSmallEntries order most row → c < order → unsigned_abs (entry row c) ≤ last_most order most c
 small_entry order most c row small h =
     elim (cases_eq (c + 1) order) [
-      inl e ↦ subst (λ n. unsigned_abs (entry row c) ≤ n) (sym (at_last order most c e)) (small.last c e)
-    | inr ne ↦ subst (λ n. unsigned_abs (entry row c) ≤ n) (sym (before_last order most c ne)) (small.plain c (omega arith))
+      | inl e ↦ subst (λ n. unsigned_abs (entry row c) ≤ n) (sym (at_last order most c e)) (small.last c e)
+      | inr ne ↦ subst (λ n. unsigned_abs (entry row c) ≤ n) (sym (before_last order most c ne)) (small.plain c (omega arith))
     ]
 
 pub minor_is_bounded : MinorIsBounded
@@ -344,12 +345,12 @@ minor_is_bounded rows most h small =
     let cols : List ℕ = columns_of rows in
     let cols_len : length cols ≡ n = length-range_with_len 0 n in
     let bound : unsigned_abs (minor_at R cols) ≤ factorial (length R) * product_of (last_most n most) cols =
-          minor_at_bound (λ c. c < n) (last_most n most) R cols
-              (λ i c l inside. subst (λ (z : ℤ). unsigned_abs z ≤ last_most n most c) (sym (row_at rows i c)) (small_entry n most c (get_or rows i []) (small i [] (omega arith)) inside))
-              (in_square rows) (cols_len ∙ sym len) in
+    minor_at_bound (λ c. c < n) (last_most n most) R cols
+    (λ i c l inside. subst (λ (z : ℤ). unsigned_abs z ≤ last_most n most c) (sym (row_at rows i c)) (small_entry n most c (get_or rows i []) (small i [] (omega arith)) inside))
+    (in_square rows) (cols_len ∙ sym len) in
     let product : product_of (last_most n most) cols ≤ most = product_of_range n most 0 n h (omega arith) in
     within (unsigned_abs (minor rows)) (factorial (length R)) (factorial n) (product_of (last_most n most) cols) most
-        (subst (λ (z : ℤ). unsigned_abs z ≤ factorial (length R) * product_of (last_most n most) cols) (sym (minor-is rows)) bound) (ap factorial len) product
+    (subst (λ (z : ℤ). unsigned_abs z ≤ factorial (length R) * product_of (last_most n most) cols) (sym (minor-is rows)) bound) (ap factorial len) product
   where
     within : (z f g p m : ℕ) → z ≤ f * p → f ≡ g → p ≤ m → z ≤ m * g
     within z f g p m h e k = let b : g * p ≤ g * m = mul-le-mul (omega arith) k in let c : z ≤ g * p = subst (λ x. z ≤ x * p) e h in omega arith
@@ -357,25 +358,30 @@ minor_is_bounded rows most h small =
 pub factor_is_bounded : FactorIsBounded
 factor_is_bounded s row factors rows k most scale comb h small row_small =
     elim (cases_lt k (length rows)) [
-      inl inside ↦ subst (λ n. n ≤ most * factorial (length rows)) (sym (factor_is_minor s row factors rows k scale comb inside)) (replaced inside)
-    | inr past ↦
-        let len : length factors ≡ length rows = comb.len in
-        let none : entry factors k ≡ pos 0 = get_or_past factors k (pos 0) (omega arith) in
-        subst (λ (z : ℤ). unsigned_abs z ≤ most * factorial (length rows)) (sym none) (omega arith)
+      | inl inside ↦ subst (λ n. n ≤ most * factorial (length rows)) (sym (factor_is_minor s row factors rows k scale comb inside)) (replaced inside)
+      | inr past ↦
+          let len : length factors ≡ length rows = comb.len in
+          let none : entry factors k ≡ pos 0 = get_or_past factors k (pos 0) (omega arith) in
+          subst (λ (z : ℤ). unsigned_abs z ≤ most * factorial (length rows)) (sym none) (omega arith)
     ]
   where
     order : length (set rows k row) ≡ length rows
     order = length-set rows k row
+
     each : (i : ℕ) (d : List ℤ) → i < length (set rows k row) → HasSmallEntries (length rows) most (get_or (set rows k row) i d)
     each i d l =
         elim (cases_eq i k) [
-          inl e ↦ subst (HasSmallEntries (length rows) most) (sym (ap (λ j. get_or (set rows k row) j d) e ∙ get_or-set_same rows k row d (omega (arith, order)))) row_small
-        | inr ne ↦ subst (HasSmallEntries (length rows) most) (sym (get_or-set_other rows k i row d ne)) (small i d (omega (arith, order)))
+          | inl e ↦ subst (HasSmallEntries (length rows) most) (sym (ap (λ j. get_or (set rows k row) j d) e ∙ get_or-set_same rows k row d (omega (arith, order)))) row_small
+          | inr ne ↦ subst (HasSmallEntries (length rows) most) (sym (get_or-set_other rows k i row d ne)) (small i d (omega (arith, order)))
         ]
+
     replaced : k < length rows → unsigned_abs (minor (set rows k row)) ≤ most * factorial (length rows)
     replaced inside =
         subst (λ n. unsigned_abs (minor (set rows k row)) ≤ most * factorial n) order
-            (minor_is_bounded (set rows k row) most h (λ i d l. subst (λ n. HasSmallEntries n most (get_or (set rows k row) i d)) (sym order) (each i d l)))
+        (minor_is_bounded (set rows k row) most h (λ i d l. subst (λ n. HasSmallEntries n most (get_or (set rows k row) i d)) (sym order) (each i d l)))
+
+pub scale_is_bounded : ScaleIsBounded
+scale_is_bounded s rows most scale h small = subst (λ n. n ≤ most * factorial (length rows)) (sym scale.size) (minor_is_bounded rows most h small)
 
 pub bound_is_small : BoundIsSmall
 bound_is_small = (λ order h. at order h, below_power)

@@ -4,3 +4,4 @@ pub mod MinorAt
 pub mod Bound
 pub mod Total
 pub mod Laws
+mod Samples

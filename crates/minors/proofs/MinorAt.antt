@@ -1,12 +1,11 @@
 -- The laws of minors over rows that are functions of the column: linear in each row, 0 at two equal rows, Cramer's rule, and the identity.
-use Rattle.std.proofs.Common.{◌≡◌, ◌≢◌, ◌⊎◌, inl, inr, ℕ, zero, suc, ◌+◌, ◌*◌, ◌<◌, ◌≤◌, ℤ, pos, negsuc, ◌+ℤ◌, ◌-ℤ◌, ◌*ℤ◌, neg_ℤ, unsigned_abs, List, [], ◌∷◌, length, get_or, set, map, refl, sym, ap, subst, ◌∙◌, arith}
+use Rattle.std.proofs.Common.{◌≡◌, ◌≢◌, ◌⊎◌, inl, inr, ℕ, zero, suc, ◌+◌, ◌<◌, ℤ, pos, ◌+ℤ◌, ◌-ℤ◌, ◌*ℤ◌, List, [], ◌∷◌, length, get_or, set, map, refl, sym, ap, subst, ◌∙◌, arith}
 use Rattle.std.proofs.lemmas.List.{set-get_or, get_or-set_same, get_or-set_other, length-set}
 use Rattle.std.specs.List.{range_with_len, AllByRecursion}
-use Rattle.std.proofs.lemmas.Bool.{cases_eq}
 use mathlib.Core.Path.{fun_ext}
 use Rattle.minors.specs.Minor.{expansion, minor_at}
 use Rattle.minors.specs.Combination.{dot}
-use Rattle.minors.proofs.Ring.{sums, mul-add, add-mul, mul-sub, mul_assoc, mul_swap, zero_mul, mul_zero, one_mul}
+use Rattle.minors.proofs.Ring.{sums, zero_mul, mul_zero, one_mul}
 use Rattle.minors.proofs.Expansion.{expansion_linear, expansion_rest_linear, expansion_swap, expansion_twice, expansion_rest_zero}
 
 -- the row that has only zeros
@@ -58,8 +57,8 @@ minor_at_head a (b ∷ rows) zero columns h e =
     ap (λ (row : ℕ → ℤ). expansion a (expansion row (minor_at rows)) columns) e ∙ expansion_twice a (minor_at rows) columns
 minor_at_head a (b ∷ rows) (suc j) columns h e =
     only_first (expansion a (expansion b (minor_at rows)) columns) (expansion b (expansion a (minor_at rows)) columns)
-        (expansion_swap a b (minor_at rows) columns)
-        (expansion_rest_zero b (expansion a (minor_at rows)) columns (λ others. minor_at_head a rows j others (omega arith) e))
+    (expansion_swap a b (minor_at rows) columns)
+    (expansion_rest_zero b (expansion a (minor_at rows)) columns (λ others. minor_at_head a rows j others (omega arith) e))
 
 pub minor_at_equal : (rows : List (ℕ → ℤ)) (i j : ℕ) (columns : List ℕ) → i < j → j < length rows → get_or rows i nothing ≡ get_or rows j nothing → minor_at rows columns ≡ pos 0
 unfolding minor_at
@@ -81,8 +80,8 @@ minor_at_copied rows i k columns hi hk ne =
     let same : get_or (set rows k row) k nothing ≡ row = get_or-set_same rows k row nothing hk in
     let other : get_or (set rows k row) i nothing ≡ row = get_or-set_other rows k i row nothing ne in
     elim (apart i k ne) [
-      inl below ↦ minor_at_equal (set rows k row) i k columns below (omega arith) (other ∙ sym same)
-    | inr above ↦ minor_at_equal (set rows k row) k i columns above (omega arith) (same ∙ sym other)
+      | inl below ↦ minor_at_equal (set rows k row) i k columns below (omega arith) (other ∙ sym same)
+      | inr above ↦ minor_at_equal (set rows k row) k i columns above (omega arith) (same ∙ sym other)
     ]
 
 -- ---- Cramer's rule
@@ -120,8 +119,8 @@ pub minor_at_replaced : (factors : List ℤ) (rows : List (ℕ → ℤ)) (k : �
 minor_at_replaced factors rows k columns h =
     minor_at_sum rows k columns h factors rows
     ∙ dot_single (λ row. minor_at (set rows k row) columns) (minor_at rows columns) factors rows k h
-        (λ i l ne. minor_at_copied rows i k columns l h ne)
-        (ap (λ (all : List (ℕ → ℤ)). minor_at all columns) (set-get_or rows k nothing))
+    (λ i l ne. minor_at_copied rows i k columns l h ne)
+    (ap (λ (all : List (ℕ → ℤ)). minor_at all columns) (set-get_or rows k nothing))
 
 -- ---- what a minor reads
 
@@ -172,13 +171,13 @@ minor_at_identity (r ∷ rows) s one zeros =
     let e : s + 0 ≡ s = omega arith in
     let first : r s ≡ pos 1 = ap r (sym e) ∙ one 0 (omega arith) in
     let left : AllByRecursion (λ c. r c ≡ pos 0) (range_with_len (s + 1) (length rows)) =
-          all_in_range (λ c. r c ≡ pos 0) (s + 1) (length rows) (λ j l. let m : s + 1 + j ≡ s + suc j = omega arith in ap r m ∙ zeros 0 (suc j) (omega arith) (omega arith) (omega arith)) in
+    all_in_range (λ c. r c ≡ pos 0) (s + 1) (length rows) (λ j l. let m : s + 1 + j ≡ s + suc j = omega arith in ap r m ∙ zeros 0 (suc j) (omega arith) (omega arith) (omega arith)) in
     let rec : minor_at rows (range_with_len (s + 1) (length rows)) ≡ pos 1 =
-          minor_at_identity rows (s + 1)
-            (λ i l. let m : s + 1 + i ≡ s + suc i = omega arith in ap (get_or rows i nothing) m ∙ one (suc i) (omega arith))
-            (λ i j l k ne. let m : s + 1 + j ≡ s + suc j = omega arith in ap (get_or rows i nothing) m ∙ zeros (suc i) (suc j) (omega arith) (omega arith) (omega arith)) in
+    minor_at_identity rows (s + 1)
+    (λ i l. let m : s + 1 + i ≡ s + suc i = omega arith in ap (get_or rows i nothing) m ∙ one (suc i) (omega arith))
+    (λ i j l k ne. let m : s + 1 + j ≡ s + suc j = omega arith in ap (get_or rows i nothing) m ∙ zeros (suc i) (suc j) (omega arith) (omega arith) (omega arith)) in
     product (r s) (minor_at rows (range_with_len (s + 1) (length rows))) (expansion r (λ others. minor_at rows (s ∷ others)) (range_with_len (s + 1) (length rows)))
-        first rec (expansion_row_zero r (λ others. minor_at rows (s ∷ others)) (range_with_len (s + 1) (length rows)) left)
+    first rec (expansion_row_zero r (λ others. minor_at rows (s ∷ others)) (range_with_len (s + 1) (length rows)) left)
   where
     product : (p q n : ℤ) → p ≡ pos 1 → q ≡ pos 1 → n ≡ pos 0 → p *ℤ q -ℤ n ≡ pos 1
     product p q n h k l = ap (λ (x : ℤ). x *ℤ q -ℤ n) h ∙ omega (arith, sums, one_mul q)

@@ -1,5 +1,5 @@
 -- A sum of products as a function of all its factors: linear in them, and what it is after one of the numbers is exchanged.
-use Rattle.std.proofs.Common.{◌≡◌, ◌≢◌, ℕ, zero, suc, ◌+◌, ◌*◌, ◌<◌, ◌≤◌, ℤ, pos, negsuc, ◌+ℤ◌, ◌-ℤ◌, ◌*ℤ◌, neg_ℤ, List, [], ◌∷◌, length, get_or, set, map, refl, sym, ap, ◌∙◌, arith}
+use Rattle.std.proofs.Common.{◌≡◌, ◌≢◌, ℕ, zero, suc, ◌<◌, ℤ, pos, ◌+ℤ◌, ◌*ℤ◌, neg_ℤ, List, [], ◌∷◌, length, get_or, set, map, refl, sym, ap, ◌∙◌, arith}
 use Rattle.std.proofs.lemmas.List.{set-get_or}
 use Rattle.minors.specs.Minor.{entry}
 use Rattle.minors.specs.Combination.{dot}
@@ -45,14 +45,14 @@ pub total_exchange : (f g : ℕ → ℤ) (numbers : List ℤ) (k : ℕ) (number 
 total_exchange f g [] k number h same = absurd (omega arith)
 total_exchange f g (c ∷ numbers) zero number h same =
     exchanged (f 0 *ℤ number) (g 0 *ℤ c) (total (λ i. f (suc i)) numbers) (total (λ i. g (suc i)) numbers)
-        (total_same (λ i. f (suc i)) (λ i. g (suc i)) numbers (λ i l. same (suc i) (omega arith) (omega arith)))
+    (total_same (λ i. f (suc i)) (λ i. g (suc i)) numbers (λ i l. same (suc i) (omega arith) (omega arith)))
   where
     exchanged : (p q r s : ℤ) → r ≡ s → (p +ℤ r) +ℤ q ≡ (q +ℤ s) +ℤ p
     exchanged p q r s e = omega (arith, sums)
 total_exchange f g (c ∷ numbers) (suc k) number h same =
     later (f 0 *ℤ c) (g 0 *ℤ c) (total (λ i. f (suc i)) (set numbers k number)) (g (suc k) *ℤ get_or numbers k (pos 0)) (total (λ i. g (suc i)) numbers) (f (suc k) *ℤ number)
-        (ap (λ (n : ℤ). n *ℤ c) (same 0 (omega arith) (omega arith)))
-        (total_exchange (λ i. f (suc i)) (λ i. g (suc i)) numbers k number (omega arith) (λ i l ne. same (suc i) (omega arith) (omega arith)))
+    (ap (λ (n : ℤ). n *ℤ c) (same 0 (omega arith) (omega arith)))
+    (total_exchange (λ i. f (suc i)) (λ i. g (suc i)) numbers k number (omega arith) (λ i l ne. same (suc i) (omega arith) (omega arith)))
   where
     later : (p q r s t u : ℤ) → p ≡ q → r +ℤ s ≡ t +ℤ u → (p +ℤ r) +ℤ s ≡ (q +ℤ t) +ℤ u
     later p q r s t u e h = omega (arith, sums)

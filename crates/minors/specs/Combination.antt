@@ -1,4 +1,4 @@
--- Rows that are, up to a scale, combinations of the rows of a square, and what an exchange of one row of the square makes of their factors.
+-- Rows that are, up to a scale, combinations of the rows of a square, and what an exchange of one row of the square makes of their factors: the exact division of fraction-free pivots (Edmonds 1967, Bareiss 1968).
 use Rattle.std.specs.Prelude.{ℕ, ◌<◌, ◌≡◌, ◌≢◌, ℤ, pos, ◌+ℤ◌, ◌-ℤ◌, ◌*ℤ◌, unsigned_abs, List, [], ◌∷◌, length, map}
 use Rattle.minors.specs.Minor.{entry, minor}
 
@@ -27,7 +27,7 @@ pub record IsPivoted (scale : ℤ) (place : ℕ) (pivot factors new : List ℤ) 
   pub len : length new ≡ length factors
   pub kept : entry new place ≡ entry factors place
   pub divided : (other : ℕ) → other < length factors → other ≢ place
-    → entry new other *ℤ scale ≡ entry pivot place *ℤ entry factors other -ℤ entry factors place *ℤ entry pivot other
+      → entry new other *ℤ scale ≡ entry pivot place *ℤ entry factors other -ℤ entry factors place *ℤ entry pivot other
 
 -- the factors of the row that leaves the square
 pub record IsLeaving (scale : ℤ) (place : ℕ) (pivot new : List ℤ) : Type 0 where

@@ -1,5 +1,5 @@
 -- The laws of minors, each over squares of any order.
-use Rattle.std.specs.Prelude.{ℕ, ◌+◌, ◌*◌, ◌^◌, ◌<◌, ◌≤◌, ◌≡◌, ◌≢◌, ℤ, pos, neg_ℤ, ◌+ℤ◌, ◌-ℤ◌, ◌*ℤ◌, unsigned_abs, List, [], length, map, slice_set, slice_index_or, All}
+use Rattle.std.specs.Prelude.{ℕ, ◌*◌, ◌^◌, ◌<◌, ◌≤◌, ◌≡◌, ◌≢◌, ℤ, pos, neg_ℤ, ◌+ℤ◌, ◌-ℤ◌, ◌*ℤ◌, unsigned_abs, List, [], length, map, slice_set, slice_index_or, All}
 use Rattle.minors.specs.Minor.{entry, minor, factorial, IsUnit, HasSmallEntries}
 use Rattle.minors.specs.Combination.{IsCombination, IsScale, IsPivoted, IsLeaving}
 
@@ -70,8 +70,8 @@ PivotDivides =
     → place < length rows → other < length rows → other ≢ place
     → entry pivot place ≢ pos 0
     → (quotient : ℤ)
-      × (quotient *ℤ scale ≡ entry pivot place *ℤ entry factors other -ℤ entry factors place *ℤ entry pivot other)
-      × (unsigned_abs quotient ≡ unsigned_abs (minor (slice_set (slice_set rows place entering) other row)))
+    × (quotient *ℤ scale ≡ entry pivot place *ℤ entry factors other -ℤ entry factors place *ℤ entry pivot other)
+    × (unsigned_abs quotient ≡ unsigned_abs (minor (slice_set (slice_set rows place entering) other row)))
 
 -- with these quotients each row is a combination of the new square's rows
 abbrev pub PivotKeepsCombination : Type 0
@@ -142,6 +142,15 @@ FactorIsBounded =
     → All (HasSmallEntries (length rows) most) rows
     → HasSmallEntries (length rows) most row
     → unsigned_abs (entry factors place) ≤ most * factorial (length rows)
+
+-- and the scale of a square
+abbrev pub ScaleIsBounded : Type 0
+ScaleIsBounded =
+    (scale : ℤ) (rows : List (List ℤ)) (most : ℕ)
+    → IsScale scale rows
+    → 1 ≤ most
+    → All (HasSmallEntries (length rows) most) rows
+    → unsigned_abs scale ≤ most * factorial (length rows)
 
 -- up to order 25, with constants of at most 25, this bound is at most 25 times 25!, which is below 2 ^ 89
 abbrev pub BoundIsSmall : Type 0
