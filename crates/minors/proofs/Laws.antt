@@ -11,11 +11,11 @@ use Rattle.std.proofs.lemmas.Bool.Decides.{nat_tests}
 use Rattle.std.proofs.lemmas.Int.{unsigned_abs-mul}
 use Rattle.minors.specs.Minor.{entry, minor, minor_at, factorial, HasSmallEntries}
 use Rattle.minors.specs.Combination.{dot, column_of, IsCombination}
-use Rattle.minors.specs.Laws.{LinearInEachRow, ZeroAtEqualRows, OneAtIdentity, ScaleOfIdentity, ReplacedRow, FactorIsMinor, ScaleAfterPivot, PivotDivides, PivotKeepsCombination, LeavingRowIsCombination, SquareRowIsCombination, SumOfCombinations, NegatedCombination, NegatedScale, MinorIsBounded, FactorIsBounded, ScaleIsBounded, BoundIsSmall}
+use Rattle.minors.specs.Laws.{LinearInEachRow, ZeroAtEqualRows, OneAtIdentity, ScaleOfIdentity, ReplacedRow, FactorIsMinor, ScaleAfterPivot, PivotDivides, PivotKeepsCombination, LeavingRowIsCombination, SquareRowIsCombination, SumOfCombinations, CombinationAtPoint, NegatedCombination, NegatedScale, MinorIsBounded, FactorIsBounded, ScaleIsBounded, BoundIsSmall}
 use Rattle.minors.proofs.Ring.{sums, mul-add, mul_assoc, mul_swap, zero_mul, one_mul, neg-mul, mul-neg, cancel, cancel_ℕ, abs_positive, same_size, abs-neg}
 use Rattle.minors.proofs.MinorAt.{nothing, minor_at_linear, minor_at_equal, minor_at_replaced, minor_at_within, all_in_range, minor_at_identity, sum_of_rows}
 use Rattle.minors.proofs.Bound.{minor_at_bound, product_of_range, last_most, product_of, factorial_mono, below_power}
-use Rattle.minors.proofs.Total.{total, dot_is_total, total_same, total_linear, total_exchange, total_single, dot_neg}
+use Rattle.minors.proofs.Total.{total, total_zero, dot_is_total, total_same, total_linear, total_exchange, total_single, dot_neg}
 
 abbrev columns_of : List (List ℤ) → List ℕ
 columns_of rows = range_with_len 0 (length rows)
@@ -309,6 +309,29 @@ sum_of_combinations s x y a b row of_a of_b factors rows comb_a comb_b row_is le
         ∙ ap (λ (m : ℤ). m +ℤ s *ℤ (y *ℤ b)) (mul_swap s x a ∙ ap (λ (m : ℤ). x *ℤ m) is_a)
         ∙ ap (λ (m : ℤ). x *ℤ ta +ℤ m) (mul_swap s y b ∙ ap (λ (m : ℤ). y *ℤ m) is_b)
         ∙ sym is_t
+
+-- the two sums of a combination's values change places
+total_of_columns : (factors : List ℤ) (rows : List (List ℤ)) (point : List ℤ) → total (λ c. dot factors (column_of rows c)) point ≡ dot factors (map (λ r. dot r point) rows)
+total_of_columns [] rows point = total_zero point
+total_of_columns (x ∷ factors) [] point = total_zero point
+total_of_columns (x ∷ factors) (r ∷ rows) point =
+    let rest : ℕ → ℤ = λ c. dot factors (column_of rows c) in
+    total_same (λ c. x *ℤ entry r c +ℤ rest c) (λ c. x *ℤ entry r c +ℤ pos 1 *ℤ rest c) point (λ c l. ap (λ (n : ℤ). x *ℤ entry r c +ℤ n) (sym (one_mul (rest c))))
+    ∙ total_linear x (pos 1) (entry r) rest point
+    ∙ ap (λ (n : ℤ). x *ℤ n +ℤ pos 1 *ℤ total rest point) (sym (dot_is_total r point))
+    ∙ ap (λ (n : ℤ). x *ℤ dot r point +ℤ n) (one_mul (total rest point) ∙ total_of_columns factors rows point)
+
+pub combination_at_point : CombinationAtPoint
+combination_at_point s row factors point rows comb h =
+    ap (λ (n : ℤ). s *ℤ n) (dot_is_total row point)
+    ∙ widened s (total (entry row) point)
+    ∙ sym (total_linear s (pos 0) (entry row) (entry row) point)
+    ∙ total_same (λ c. s *ℤ entry row c +ℤ pos 0 *ℤ entry row c) (λ c. dot factors (column_of rows c)) point
+    (λ c l. sym (widened s (entry row c)) ∙ comb.each c (omega arith))
+    ∙ total_of_columns factors rows point
+  where
+    widened : (s n : ℤ) → s *ℤ n ≡ s *ℤ n +ℤ pos 0 *ℤ n
+    widened s n = omega (arith, sums, zero_mul n)
 
 pub negated_combination : NegatedCombination
 negated_combination s row factors rows comb = record {

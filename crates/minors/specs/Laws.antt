@@ -1,7 +1,7 @@
 -- The laws of minors, each over squares of any order.
 use Rattle.std.specs.Prelude.{ℕ, ◌*◌, ◌^◌, ◌<◌, ◌≤◌, ◌≡◌, ◌≢◌, ℤ, pos, neg_ℤ, ◌+ℤ◌, ◌-ℤ◌, ◌*ℤ◌, unsigned_abs, List, [], length, map, slice_set, slice_index_or, All}
 use Rattle.minors.specs.Minor.{entry, minor, factorial, IsUnit, HasSmallEntries}
-use Rattle.minors.specs.Combination.{IsCombination, IsScale, IsPivoted, IsLeaving}
+use Rattle.minors.specs.Combination.{dot, IsCombination, IsScale, IsPivoted, IsLeaving}
 
 -- a minor is linear in each row: where a row is x times one row plus y times another, so are the minors
 abbrev pub LinearInEachRow : Type 0
@@ -113,6 +113,14 @@ SumOfCombinations =
     → length factors ≡ length rows
     → ((place : ℕ) → place < length rows → entry factors place ≡ x *ℤ entry of_a place +ℤ y *ℤ entry of_b place)
     → IsCombination scale row factors rows
+
+-- a combination of rows is one of their values at each point
+abbrev pub CombinationAtPoint : Type 0
+CombinationAtPoint =
+    (scale : ℤ) (row factors point : List ℤ) (rows : List (List ℤ))
+    → IsCombination scale row factors rows
+    → length point ≤ length rows
+    → scale *ℤ dot row point ≡ dot factors (map (λ r. dot r point) rows)
 
 -- the signs of a scale and of all factors may be turned together
 abbrev pub NegatedCombination : Type 0

@@ -3,7 +3,7 @@
 //! hold by its contract for squares of any order.
 #![tactic(auto)]
 
-ghost use Rattle.minors.specs.Laws.{LinearInEachRow, ZeroAtEqualRows, OneAtIdentity, ScaleOfIdentity, ReplacedRow, FactorIsMinor, ScaleAfterPivot, PivotDivides, PivotKeepsCombination, LeavingRowIsCombination, SquareRowIsCombination, SumOfCombinations, NegatedCombination, NegatedScale, MinorIsBounded, FactorIsBounded, ScaleIsBounded, BoundIsSmall};
+ghost use Rattle.minors.specs.Laws.{LinearInEachRow, ZeroAtEqualRows, OneAtIdentity, ScaleOfIdentity, ReplacedRow, FactorIsMinor, ScaleAfterPivot, PivotDivides, PivotKeepsCombination, LeavingRowIsCombination, SquareRowIsCombination, SumOfCombinations, CombinationAtPoint, NegatedCombination, NegatedScale, MinorIsBounded, FactorIsBounded, ScaleIsBounded, BoundIsSmall};
 
 /// A minor is the determinant: linear in each row, 0 where two rows are equal, and 1 at the
 /// identity.
@@ -20,11 +20,12 @@ pub fn factors_are_minors()
     ensures factor { FactorIsMinor }
 {}
 
-/// The rows that are combinations of a square's rows hold its own rows and their sums and
-/// multiples, and all signs may be turned.
+/// A square's own rows are combinations of its rows, and so are sums and multiples of combinations.
+/// A combination holds of the rows' values at each point, and all its signs may be turned.
 pub fn combinations_are_closed()
     ensures own { SquareRowIsCombination }
     ensures sums { SumOfCombinations }
+    ensures at_point { CombinationAtPoint }
     ensures negated { NegatedCombination }
 {}
 
