@@ -44,13 +44,7 @@ pub(crate) fn degree(a: &[u8], b: &[u8]) -> usize
     ensures value { result ≡ degree_between a.now b.now }
     ensures range { result ≤ length a.now }
 {
-    let mut count = 0;
-    for place in 0..a.len() {
-        if a[place] != b[place] {
-            count += 1;
-        }
-    }
-    count
+    a.iter().zip(b).filter(|(x, y)| x != y).count()
 }
 
 /// Whether each place on which the two agree is 0.
