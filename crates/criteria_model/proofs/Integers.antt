@@ -1,5 +1,5 @@
 -- Laws of sums, products and signs of whole numbers.
-use Rattle.std.proofs.Common.{◌≡◌, ℕ, ◌+◌, ◌*◌, ◌≤◌, ◌<◌, ℤ, pos, negsuc, ◌+ℤ◌, ◌-ℤ◌, ◌*ℤ◌, neg_ℤ, ◌≤ℤ◌, ◌<ℤ◌, unsigned_abs, ap, arith, mul-le-mul}
+use Rattle.std.proofs.Common.{◌≡◌, ℕ, zero, suc, ◌+◌, ◌*◌, ◌≤◌, ◌<◌, ℤ, pos, negsuc, ◌+ℤ◌, ◌-ℤ◌, ◌*ℤ◌, neg_ℤ, ◌≤ℤ◌, ◌<ℤ◌, unsigned_abs, ap, refl, arith, mul-le-mul}
 use Rattle.std.proofs.lemmas.Int.{ints, unsigned_abs-mul}
 use borrow.Author.Differences.{up, down, same_in, at_most_in, below_in, le_out, lt_out, product_is, sum_is_lem, neg_is, abs_is}
 
@@ -35,13 +35,13 @@ pub mul-one : (x : ℤ) → x *ℤ pos 1 ≡ x
 mul-one x = omega (arith, ints)
 
 -- a product of numbers that aren't negative isn't negative
-pub mul_nonneg : (x y : ℤ) → pos 0 ≤ℤ x → pos 0 ≤ℤ y → pos 0 ≤ℤ x *ℤ y
+pub mul_nonneg : (x y : ℤ) → pos 0 ≤ℤ x → pos 0 ≤ℤ y → pos 0 ≤ℤ (x *ℤ y)
 mul_nonneg (pos a) (pos b) h k = omega (arith, ints)
 mul_nonneg (pos a) (negsuc b) h k = absurd (omega (arith, ints))
 mul_nonneg (negsuc a) y h k = absurd (omega (arith, ints))
 
 -- a product of positive numbers is positive
-pub mul_positive : (x y : ℤ) → pos 1 ≤ℤ x → pos 1 ≤ℤ y → pos 1 ≤ℤ x *ℤ y
+pub mul_positive : (x y : ℤ) → pos 1 ≤ℤ x → pos 1 ≤ℤ y → pos 1 ≤ℤ (x *ℤ y)
 mul_positive (pos a) (pos b) h k =
     let p : 1 ≤ a = omega (arith, ints) in
     let q : 1 ≤ b = omega (arith, ints) in
@@ -50,7 +50,7 @@ mul_positive (pos a) (negsuc b) h k = absurd (omega (arith, ints))
 mul_positive (negsuc a) y h k = absurd (omega (arith, ints))
 
 -- a factor of at least 1 keeps the sign
-pub positive_from_multiple : (x y : ℤ) → pos 1 ≤ℤ x → pos 1 ≤ℤ x *ℤ y → pos 1 ≤ℤ y
+pub positive_from_multiple : (x y : ℤ) → pos 1 ≤ℤ x → pos 1 ≤ℤ (x *ℤ y) → pos 1 ≤ℤ y
 positive_from_multiple (negsuc a) y h k = absurd (omega (arith, ints))
 positive_from_multiple (pos a) (pos zero) h k = absurd (omega (arith, ints))
 positive_from_multiple (pos a) (pos (suc b)) h k = omega (arith, ints)
@@ -58,7 +58,7 @@ positive_from_multiple (pos a) (negsuc b) h k = absurd (omega (arith, ints))
 
 pub zero_from_multiple : (x y : ℤ) → pos 1 ≤ℤ x → x *ℤ y ≡ pos 0 → y ≡ pos 0
 zero_from_multiple (negsuc a) y h k = absurd (omega (arith, ints))
-zero_from_multiple (pos a) (pos zero) h k = omega arith
+zero_from_multiple (pos a) (pos zero) h k = refl
 zero_from_multiple (pos a) (pos (suc b)) h k =
     let p : 1 ≤ a = omega (arith, ints) in
     let q : 1 ≤ suc b = omega arith in

@@ -12,24 +12,24 @@ dot-nil (x ∷ v) = refl
 pub dot-plus : (v a b : List ℤ) → dot v (plus a b) ≡ dot v a +ℤ dot v b
 dot-plus [] a b = refl
 dot-plus (x ∷ v) [] b = omega (arith, ints)
-dot-plus (x ∷ v) (a ∷ as) [] = omega (arith, ints)
-dot-plus (x ∷ v) (a ∷ as) (b ∷ bs) = omega (arith, ints, dot-plus v as bs, mul-add x a b)
+dot-plus (x ∷ v) (a ∷ a') [] = omega (arith, ints)
+dot-plus (x ∷ v) (a ∷ a') (b ∷ b') = omega (arith, ints, dot-plus v a' b', mul-add x a b)
 
 pub dot-neg : (v a : List ℤ) → dot v (map neg_ℤ a) ≡ neg_ℤ (dot v a)
 dot-neg [] a = refl
 dot-neg (x ∷ v) [] = refl
-dot-neg (x ∷ v) (a ∷ as) = omega (arith, ints, dot-neg v as, mul-neg x a)
+dot-neg (x ∷ v) (a ∷ a') = omega (arith, ints, dot-neg v a', mul-neg x a)
 
 pub dot-minus : (v a b : List ℤ) → dot v (minus a b) ≡ dot v a -ℤ dot v b
 dot-minus [] a b = refl
 dot-minus (x ∷ v) [] b = omega (arith, ints, dot-neg (x ∷ v) b)
-dot-minus (x ∷ v) (a ∷ as) [] = omega (arith, ints)
-dot-minus (x ∷ v) (a ∷ as) (b ∷ bs) = omega (arith, ints, dot-minus v as bs, mul-sub x a b)
+dot-minus (x ∷ v) (a ∷ a') [] = omega (arith, ints)
+dot-minus (x ∷ v) (a ∷ a') (b ∷ b') = omega (arith, ints, dot-minus v a' b', mul-sub x a b)
 
 pub dot-times : (k : ℤ) (v a : List ℤ) → dot v (times k a) ≡ k *ℤ dot v a
 dot-times k [] a = sym (mul-zero k)
 dot-times k (x ∷ v) [] = sym (mul-zero k)
-dot-times k (x ∷ v) (a ∷ as) = omega (arith, ints, dot-times k v as, mul_left_comm x k a, mul-add k (x *ℤ a) (dot v as))
+dot-times k (x ∷ v) (a ∷ a') = omega (arith, ints, dot-times k v a', mul_left_comm x k a, mul-add k (x *ℤ a) (dot v a'))
 
 -- ---- lengths
 pub length-plus : (a b : List ℤ) → length (plus a b) ≡ max (length a) (length b)

@@ -1,7 +1,7 @@
 // The numbers of a model, from the level counts of its criteria.
-ghost use Rattle.std.specs.Prelude.{◌≡◌, ◌+◌, ◌*◌, ◌-◌, ◌/◌, ◌^◌, ◌<◌, ◌≤◌, length, All};
+ghost use Rattle.std.specs.Prelude.{◌≡◌, ℕ, ◌+◌, ◌*◌, ◌-◌, ◌/◌, ◌^◌, ◌<◌, ◌≤◌, length, All, slice_index};
 ghost use Rattle.criteria_model.specs.Worth.{increments};
-ghost use Rattle.criteria_model.specs.Counts.{class_count};
+ghost use Rattle.criteria_model.specs.Counts.{class_count, level_pairs as level_pairs_of};
 ghost use Rattle.criteria_model.specs.Faults.{first_low as first_low_of};
 
 use crate::tuples::Tuple;
@@ -25,11 +25,7 @@ pub(crate) fn count_increments(levels: &[u32]) -> u64
     requires { length levels.now < 2 ^ 32 }
     ensures { result ≡ increments levels.now }
 {
-    let mut count = 0;
-    for n in levels {
-        count += u64::from(n.saturating_sub(1));
-    }
-    count
+    levels.iter().map(|n| u64::from(n.saturating_sub(1))).sum()
 }
 
 /// The level counts as a `Tuple`.
@@ -56,7 +52,7 @@ pub(crate) fn count_classes(counts: &[u8], limit: usize) -> u64
     let table = level_pairs(counts);
     let mut count = 0;
     for degree in 2..limit + 1 {
-        count += ((1 << (degree - 1)) - 1) * table[degree];
+        count += ((1u64 << (degree - 1)) - 1) * table[degree];
     }
     count
 }
@@ -66,19 +62,30 @@ pub(crate) fn count_classes(counts: &[u8], limit: usize) -> u64
 fn level_pairs(counts: &[u8]) -> [u64; 25]
     requires few { increments counts.now ≤ 24 }
     requires two_levels { All (λ n. 2 ≤ n) counts.now }
+    ensures { (d : ℕ) → d < 25 → slice_index result d ≡ level_pairs_of d counts.now }
 {
     let mut table = [0; 25];
     table[0] = 1;
-    for n in counts.iter().rev() {
-        let n = u64::from(*n);
+    let mut left = counts.len();
+    while left > 0 {
+        left -= 1;
+        let n = u64::from(counts[left]);
         add_criterion(&mut table, n * (n - 1) / 2);
     }
     table
 }
 
 /// Adds a criterion with so many pairs of two levels to the table.
-fn add_criterion(table: &mut [u64; 25], pairs: u64) {
-    for size in (1..25).rev() {
+fn add_criterion(table: &mut [u64; 25], pairs: u64)
+    requires few { pairs ≤ 2 ^ 24 }
+    requires small { (d : ℕ) → d < 25 → slice_index table.old d ≤ 2 ^ 24 }
+    ensures none { slice_index table.new 0 ≡ slice_index table.old 0 }
+    ensures some { (d : ℕ) → 1 ≤ d → d < 25
+        → slice_index table.new d ≡ slice_index table.old d + pairs * slice_index table.old (d - 1) }
+{
+    let mut size = 24;
+    while size > 0 {
         table[size] += pairs * table[size - 1];
+        size -= 1;
     }
 }

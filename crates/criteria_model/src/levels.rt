@@ -1,6 +1,6 @@
 // Comparisons of two lists of levels, criterion by criterion.
 ghost use Rattle.std.specs.Prelude.{◌≡◌, ◌↔◌, ◌≤◌, length, IsTrue, EachIndex, slice_index};
-ghost use Rattle.criteria_model.specs.Alternatives.{IsSomewhereHigher, degree as degree_between};
+ghost use Rattle.criteria_model.specs.Alternatives.{IsSomewhereHigher, IsUndominated, degree as degree_between};
 ghost use Rattle.criteria_model.specs.Pairs.{FitsAt, IsCancelled, IsLeftFirst};
 
 /// Whether the levels fit a criterion of so many levels: both 0, or both levels of it.
@@ -36,6 +36,14 @@ pub(crate) fn is_somewhere_higher(a: &[u8], b: &[u8]) -> bool
         }
     }
     false
+}
+
+/// Whether each is higher than the other on some criterion.
+pub(crate) fn is_undominated(a: &[u8], b: &[u8]) -> bool
+    requires { length a.now ≡ length b.now }
+    ensures { IsTrue result ↔ IsUndominated a.now b.now }
+{
+    is_somewhere_higher(a, b) && is_somewhere_higher(b, a)
 }
 
 /// On how many criteria the two differ.

@@ -14,7 +14,7 @@ ghost use Rattle.criteria_model.specs.Classes.{IsClass as IsClassOf};
 use crate::counting::{count_classes, count_increments, first_low, tuple_of};
 use crate::differences::differences;
 use crate::faults::ModelFault;
-use crate::levels::{all_fit, degree, is_cancelled, is_left_first, is_somewhere_higher};
+use crate::levels::{all_fit, degree, is_cancelled, is_left_first, is_somewhere_higher, is_undominated};
 use crate::pairs::{Dominance, Pair, Side};
 use crate::rows::Row;
 use crate::tuples::Tuple;
@@ -205,11 +205,13 @@ impl Model {
         }
         let left = pair.left.as_slice();
         let right = pair.right.as_slice();
-        is_cancelled(left, right)
-            && is_left_first(left, right)
-            && is_somewhere_higher(left, right)
-            && is_somewhere_higher(right, left)
-            && degree(left, right) <= usize::from(self.limit)
+        if !is_cancelled(left, right) || !is_left_first(left, right) {
+            return false;
+        }
+        if !is_undominated(left, right) {
+            return false;
+        }
+        degree(left, right) <= usize::from(self.limit)
     }
 
     /// What the alternative is worth by these values; level 0 counts as level 1.
