@@ -93,3 +93,16 @@ undominated_is_not_dominated_lem a b e = (
       elim (higher_or_not b a (sym e)) [ inl h ↦ h | inr h ↦ absurd (d.1 (d.0, inl h)) ]
     )
   )
+
+-- ---- the dominance of filled pairs, from the written levels
+pub filled_same : (levels a b : List ℕ) → AreWritten levels a b → ¬ IsSomewhereHigher a b → ¬ IsSomewhereHigher b a → filled a ≡ filled b
+filled_same levels a b w n m =
+    let e : length a ≡ length b = w.len ∙ sym w.other_len in
+    ap filled (same_if_at_least a b e (not_higher b a (sym e) m) (not_higher a b e n))
+
+pub filled_higher : (levels a b : List ℕ) → AreWritten levels a b → IsSomewhereHigher a b → ¬ IsSomewhereHigher b a → (filled a ≢ filled b) × IsAtLeast (filled a) (filled b)
+filled_higher levels a b w h n =
+    let e : length a ≡ length b = w.len ∙ sym w.other_len in
+    let f : length (filled b) ≡ length (filled a) = length-filled b ∙ sym e ∙ sym (length-filled a) in
+    (higher_differs (filled a) (filled b) (higher_filled levels a b w h),
+     not_higher (filled b) (filled a) f (λ p. n (higher_unfilled b a (sym e) p)))

@@ -1,7 +1,7 @@
 -- Increments and the rows of alternatives.
 use Rattle.std.proofs.Common.{◌⊎◌, inl, inr, ◌≤ℤ◌, ◌≡◌, ℕ, zero, suc, ◌+◌, ◌-◌, ◌≤◌, ◌<◌, max, List, [], ◌∷◌, ◌++◌, length, map, take, drop, replicate, get_or, All, sum_by, ℤ, pos, ◌-ℤ◌, refl, ap, ap₂, sym, ◌∙◌, arith, length-append, append_assoc, append-nil, length-take, cond, nat_lt, unsigned_abs, true, false, ◌*◌}
 use Rattle.std.specs.List.{range_with_len}
-use Rattle.std.proofs.lemmas.List.{take_more}
+use Rattle.std.proofs.lemmas.List.{take_more, take-replicate, replicate-append-replicate}
 use Rattle.std.proofs.lemmas.Int.{ints}
 use Rattle.std.proofs.lemmas.List.Sums.{sum_by_more_le, sum_by-cons}
 use Rattle.std.proofs.lemmas.List.FromFn.{length-map-range_with_len, map-range_with_len_more}
@@ -11,7 +11,7 @@ use Rattle.criteria_model.specs.Rows.{minus}
 use Rattle.criteria_model.specs.Lists.{IsTuple, IsRow}
 use Rattle.criteria_model.specs.Alternatives.{filled}
 use Rattle.criteria_model.specs.Worth.{increments, lies_above, has_on, has}
-use Rattle.criteria_model.proofs.RowLemmas.{length-minus, minus-append, minus-self}
+use Rattle.criteria_model.proofs.RowLemmas.{length-minus, minus-append, minus-self, minus-zeros}
 
 pub increments-cons : (n : ℕ) (levels : List ℕ) → increments (n ∷ levels) ≡ (n - 1) + increments levels
 increments-cons n levels = sum_by-cons (λ n. n - 1) n levels
@@ -98,8 +98,8 @@ bits-has_on level a (suc n) zero d l = bits-lies_above level a
 bits-has_on level a (suc n) (suc k) d l = bits-has_on level (a + 1) n k d (omega arith)
 
 pub bits-has : (levels alternative : List ℕ) → All IsBit (has levels alternative)
-bits-has [] alternative k d l = absurd (omega arith)
-bits-has (n ∷ levels) [] k d l = absurd (omega arith)
+bits-has [] alternative = λ k d l. absurd (omega arith)
+bits-has (n ∷ levels) [] = λ k d l. absurd (omega arith)
 bits-has (n ∷ levels) (level ∷ alternative) = bits-append (has_on n level) (has levels alternative) (bits-has_on level 1 (n - 1)) (bits-has levels alternative)
 
 minus-bits : (a b : List ℤ) → length a ≡ length b → All IsBit a → All IsBit b → All (λ x. unsigned_abs x ≤ 1) (minus a b)
@@ -168,3 +168,28 @@ minus-has-matched (n ∷ levels) (x ∷ a) (y ∷ b) (z ∷ c) (u ∷ d) m =
     minus-append (has_on n x) (has levels a) (has_on n y) (has levels b) (omega (arith, length-has_on n x, length-has_on n y))
     ∙ ap₂ (λ r s. r ++ s) (minus-has_on-matches n x y z u (m.places 0 (omega arith))) (minus-has-matched levels a b c d rest)
     ∙ sym (minus-append (has_on n z) (has levels c) (has_on n u) (has levels d) (omega (arith, length-has_on n z, length-has_on n u)))
+
+-- ---- the lowest levels have no increment
+lies_above-zero : (i : ℕ) → lies_above 0 i ≡ pos 0
+lies_above-zero i = grind (arith, nat_tests)
+
+has_on-zero : (a n : ℕ) → map (lies_above 0) (range_with_len a n) ≡ replicate n (pos 0)
+has_on-zero a zero = refl
+has_on-zero a (suc n) = ap₂ (λ x xs. x ∷ xs) (lies_above-zero a) (has_on-zero (a + 1) n)
+
+has-zeros : (levels : List ℕ) → has levels (replicate (length levels) 0) ≡ replicate (increments levels) (pos 0)
+has-zeros [] = refl
+has-zeros (n ∷ levels) =
+    ap₂ (λ a b. a ++ b) (has_on-zero 1 (n - 1)) (has-zeros levels)
+    ∙ replicate-append-replicate (n - 1) (increments levels) (pos 0)
+    ∙ ap (λ k. replicate k (pos 0)) (sym (increments-cons n levels))
+
+pub minus-has-zeros : (levels alternative : List ℕ) → length alternative ≡ length levels → minus (has levels alternative) (has levels (replicate (length levels) 0)) ≡ has levels alternative
+minus-has-zeros levels alternative e =
+    rw (has-zeros levels, ← length-has levels alternative e) (minus-zeros (has levels alternative))
+
+-- the difference to the lowest levels is the alternative's own row
+pub minus-has-lowest : (levels alternative lowest : List ℕ) (n : ℕ) → length alternative ≡ length levels → n ≡ length alternative → n ≤ 24 → lowest ≡ take n (replicate 24 0) → minus (has levels alternative) (has levels lowest) ≡ has levels alternative
+minus-has-lowest levels alternative lowest n e f l g =
+    ap (λ a. minus (has levels alternative) (has levels a)) (g ∙ take-replicate n 24 0 l ∙ ap (λ k. replicate k 0) (f ∙ e))
+    ∙ minus-has-zeros levels alternative e

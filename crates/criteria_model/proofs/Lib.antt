@@ -6,3 +6,4 @@ pub mod DominanceLemmas
 pub mod CountLemmas
 pub mod DotLemmas
 pub mod ReplicaLemmas
+pub mod DifferenceSteps

@@ -46,7 +46,8 @@ pub(crate) fn tuple_of(levels: &[u32]) -> Tuple
 pub(crate) fn count_classes(counts: &[u8], limit: usize) -> u64
     requires few { increments counts.now ≤ 24 }
     requires two_levels { All (λ n. 2 ≤ n) counts.now }
-    requires limit { limit ≤ length counts.now }
+    requires low { 1 ≤ limit }
+    requires high { limit ≤ length counts.now }
     ensures { result ≡ class_count counts.now limit }
 {
     let table = level_pairs(counts);
