@@ -75,7 +75,7 @@ dot-take_more a b i l e =
     let same : length (take i a) ≡ length (take i b) = simp length-take (omega arith) in
     rw (take_more a i (pos 0) l, take_more b i (pos 0) m)
     (dot-append (take i a) (get_or a i (pos 0) ∷ []) (take i b) (get_or b i (pos 0) ∷ []) same
-     ∙ ap (λ z. dot (take i a) (take i b) +ℤ z) (omega (arith, ints)))
+    ∙ ap (λ z. dot (take i a) (take i b) +ℤ z) (omega (arith, ints)))
 
 -- ---- zeros
 pub minus-zeros : (a : List ℤ) → minus a (replicate (length a) (pos 0)) ≡ a
