@@ -1,0 +1,4 @@
+pub mod Integers
+
+pub mod DividedLemmas
+pub mod Product
