@@ -60,3 +60,7 @@ pub divided_back : (w : Width) (x e q : ℤ) → q *ℤ e ≡ x → 0 < unsigned
 divided_back w x e q h p x_size e_size =
     rw (read_back w x x_size, read_back w e e_size, divided_is x e q h p)
     (read_back w q (omega (arith, factor-abs-le q e p, ap unsigned_abs h)))
+
+-- the difference of two products, whose factors are read from their bits
+pub products_back : (w : Width) (a b c d : ℤ) → unsigned_abs a < 2 ^ hbits w → unsigned_abs b < 2 ^ hbits w → unsigned_abs c < 2 ^ hbits w → unsigned_abs d < 2 ^ hbits w → to_z w (of_z w a) *ℤ to_z w (of_z w b) -ℤ to_z w (of_z w c) *ℤ to_z w (of_z w d) ≡ a *ℤ b -ℤ c *ℤ d
+products_back w a b c d h k l m = rw (read_back w a h, read_back w b k, read_back w c l, read_back w d m) refl

@@ -1,9 +1,9 @@
 //! Exact steps on whole numbers whose products need more than 128 bits, and the greatest common divisor.
 #![tactic(auto)]
 
-ghost use Rattle.std.specs.Prelude.{◌≡◌, ◌<◌, ◌^◌, pos, ◌*ℤ◌, ◌-ℤ◌, ◌≤ℤ◌, ◌<ℤ◌, unsigned_abs};
+ghost use Rattle.std.specs.Prelude.{◌≡◌, ◌<◌, ◌^◌, pos, ◌*ℤ◌, ◌-ℤ◌, ◌≤ℤ◌, ◌↔◌, unsigned_abs, IsTrue};
 ghost use Rattle.std.specs.Int.{IsGcd};
-ghost use Rattle.wide_step.specs.Quotient.{HasQuotient};
+ghost use Rattle.wide_step.specs.Quotient.{HasQuotient, AreSmall};
 
 mod divided;
 
@@ -27,15 +27,37 @@ pub fn step(a: i128, b: i128, c: i128, d: i128, e: i128) -> i128
     ensures quotient { result *ℤ e ≡ a *ℤ b -ℤ c *ℤ d }
     ensures size { unsigned_abs result < 2 ^ 126 }
 {
-    let sizes = a.unsigned_abs() | b.unsigned_abs() | c.unsigned_abs() | d.unsigned_abs();
-    if sizes < SMALL {
-        let difference = small_product(a, b) - small_product(c, d);
-        exact_quotient(difference, e)
+    if are_small(a, b, c, d) {
+        small_step(a, b, c, d, e)
     } else if e < 0 {
         wide_quotient(c, d, a, b, e.unsigned_abs())
     } else {
         wide_quotient(a, b, c, d, e.unsigned_abs())
     }
+}
+
+/// Whether the four factors are below 2^62 in size.
+#[inline]
+fn are_small(a: i128, b: i128, c: i128, d: i128) -> bool
+    ensures { IsTrue result ↔ AreSmall a b c d }
+{
+    a.unsigned_abs() < SMALL
+        && b.unsigned_abs() < SMALL
+        && c.unsigned_abs() < SMALL
+        && d.unsigned_abs() < SMALL
+}
+
+/// The step where the products are below 2^124.
+#[inline]
+fn small_step(a: i128, b: i128, c: i128, d: i128, e: i128) -> i128
+    requires small { AreSmall a b c d }
+    requires e_size { unsigned_abs e < 2 ^ 120 }
+    requires divisor { 0 < unsigned_abs e }
+    requires exact { HasQuotient (a *ℤ b -ℤ c *ℤ d) e }
+    ensures quotient { result *ℤ e ≡ a *ℤ b -ℤ c *ℤ d }
+    ensures size { unsigned_abs result < 2 ^ 126 }
+{
+    exact_quotient(small_product(a, b) - small_product(c, d), e)
 }
 
 /// A product of two numbers of 64 bits.
@@ -80,12 +102,10 @@ fn wide_quotient(a: i128, b: i128, c: i128, d: i128, divisor: u128) -> i128
 {
     let first = signed_product(a, b, divisor);
     let second = signed_product(c, d, divisor);
-    let difference = first.quotient.wrapping_sub(second.quotient);
-    if difference < 1 << 127 {
-        difference as i128
-    } else {
-        -(difference.wrapping_neg() as i128)
-    }
+    first
+        .quotient
+        .wrapping_sub(second.quotient)
+        .cast_signed()
 }
 
 /// The greatest common divisor, never negative; that of 0 and 0 is 0.
