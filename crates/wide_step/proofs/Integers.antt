@@ -1,5 +1,5 @@
 -- Laws of whole numbers: products over sums, quotients that are alone, and numbers that go to bits and back.
-use Rattle.std.proofs.Common.{◌≡◌, ◌∙◌, ℕ, ◌+◌, ◌*◌, ◌<◌, ◌≤◌, ◌^◌, ℤ, pos, neg_ℤ, ◌+ℤ◌, ◌-ℤ◌, ◌*ℤ◌, zero, suc, refl, unsigned_abs, sym, ap, arith, to_z, of_z}
+use Rattle.std.proofs.Common.{◌≡◌, ℕ, ◌*◌, ◌<◌, ◌≤◌, ◌^◌, ℤ, pos, neg_ℤ, ◌+ℤ◌, ◌-ℤ◌, ◌*ℤ◌, zero, suc, refl, unsigned_abs, ap, arith, to_z, of_z}
 use Rattle.std.proofs.lemmas.Int.{ints, unsigned_abs-mul, to_z-of_z, fits_signed_from_abs, quot-rem, rem_below}
 use Rattle.std.proofs.lemmas.Nat.{mul-lt}
 use Rattle.std.specs.Int.{Width}

@@ -33,7 +33,10 @@ impl Divided {
         let quotient = self.quotient.wrapping_add(other.quotient);
         let remainder = self.remainder + other.remainder;
         if remainder < divisor {
-            Divided { quotient, remainder }
+            Divided {
+                quotient,
+                remainder,
+            }
         } else {
             Divided {
                 quotient: quotient.wrapping_add(1),

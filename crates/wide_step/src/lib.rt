@@ -102,10 +102,7 @@ fn wide_quotient(a: i128, b: i128, c: i128, d: i128, divisor: u128) -> i128
 {
     let first = signed_product(a, b, divisor);
     let second = signed_product(c, d, divisor);
-    first
-        .quotient
-        .wrapping_sub(second.quotient)
-        .cast_signed()
+    first.quotient.wrapping_sub(second.quotient).cast_signed()
 }
 
 /// The greatest common divisor, never negative; that of 0 and 0 is 0.
@@ -136,3 +133,6 @@ fn gcd_of_sizes(a: u128, b: u128) -> u128
     }
     x
 }
+
+#[cfg(test)]
+mod tests;

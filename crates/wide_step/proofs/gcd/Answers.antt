@@ -1,4 +1,4 @@
-use Rattle.std.proofs.Common.{arith, ◌≡◌, ℕ, ◌∙◌, refl, ℤ, unsigned_abs, pos, to_z, of_z, ap, subst, sym}
+use Rattle.std.proofs.Common.{arith, ◌≡◌, ℕ, ◌∙◌, refl, unsigned_abs, pos, to_z, ap, sym}
 use Rattle.std.proofs.lemmas.Int.{to_z_pos, to_z-of_z}
 use Rattle.std.specs.Int.{w128, IsGcd}
 use Rattle.std.proofs.lemmas.Nat.Gcd.{same_from_IsGcd, IsGcd-from_zero}

@@ -1,4 +1,4 @@
-use Rattle.std.proofs.Common.{arith, ◌≡◌, ◌∙◌, ◌<◌, ◌^◌, ℕ, ℤ, ◌*ℤ◌, unsigned_abs, pos, to_z, of_z, ap, sym, lit<}
+use Rattle.std.proofs.Common.{arith, ◌≡◌, ◌∙◌, ◌<◌, ◌^◌, ℤ, ◌*ℤ◌, unsigned_abs, to_z, of_z, ap}
 use Rattle.std.specs.Int.{w128, w64}
 use Rattle.wide_step.proofs.Integers.{read_back, abs-mul-lt}
 use Rattle.wide_step.proofs.small_product.Goals as goal

@@ -1,4 +1,4 @@
-use Rattle.std.proofs.Common.{◌≡◌, ◌∙◌, ◌<◌, ◌^◌, ℤ, to_z, of_z, unsigned_abs, ◌*ℤ◌, ◌-ℤ◌, FitsSigned, ap, refl, sym, arith}
+use Rattle.std.proofs.Common.{◌≡◌, ◌∙◌, ◌<◌, ◌^◌, ℤ, to_z, of_z, unsigned_abs, ◌*ℤ◌, ◌-ℤ◌, FitsSigned, refl, sym, arith}
 use Rattle.std.specs.Int.{w128}
 use Rattle.std.proofs.lemmas.Int.{ints, fits_signed_from_abs}
 use Rattle.wide_step.specs.Quotient.{HasQuotient}
@@ -53,6 +53,6 @@ quotient_along q x y e f q_size h k l = rw (read_back w128 q (omega arith), sym 
 pub returns-clause-quotient : goal.returns-clause-quotient
 returns-clause-quotient c =
     let dividend = difference_back c.small_product.result c.small_product-2.result c.small_product.ensures.size c.small_product-2.ensures.size
-      ∙ products_difference c.small_product.result c.small_product-2.result (to_z w128 (of_z w128 c.args.a) *ℤ to_z w128 (of_z w128 c.args.b)) (to_z w128 (of_z w128 c.args.c) *ℤ to_z w128 (of_z w128 c.args.d)) c.small_product.ensures.product c.small_product-2.ensures.product
-      ∙ products_back w128 c.args.a c.args.b c.args.c c.args.d (omega (arith, c.requires.small.a_size)) (omega (arith, c.requires.small.b_size)) (omega (arith, c.requires.small.c_size)) (omega (arith, c.requires.small.d_size)) in
+    ∙ products_difference c.small_product.result c.small_product-2.result (to_z w128 (of_z w128 c.args.a) *ℤ to_z w128 (of_z w128 c.args.b)) (to_z w128 (of_z w128 c.args.c) *ℤ to_z w128 (of_z w128 c.args.d)) c.small_product.ensures.product c.small_product-2.ensures.product
+    ∙ products_back w128 c.args.a c.args.b c.args.c c.args.d (omega (arith, c.requires.small.a_size)) (omega (arith, c.requires.small.b_size)) (omega (arith, c.requires.small.c_size)) (omega (arith, c.requires.small.d_size)) in
     quotient_along c.exact_quotient.result _ (c.args.a *ℤ c.args.b -ℤ c.args.c *ℤ c.args.d) c.args.e _ c.exact_quotient.ensures.size dividend (divisor_is c.args.e c.requires.e_size) c.exact_quotient.ensures.quotient

@@ -1,6 +1,6 @@
-use Rattle.std.proofs.Common.{◌≡◌, ◌∙◌, ◌<◌, ◌^◌, ℕ, ℤ, pos, neg_ℤ, to_z, of_z, unsigned_abs, ◌*ℤ◌, ◌-ℤ◌, ap, sym, refl, arith, true}
+use Rattle.std.proofs.Common.{◌≡◌, ◌∙◌, ◌<◌, ◌^◌, ℤ, pos, neg_ℤ, to_z, of_z, unsigned_abs, ◌*ℤ◌, ◌-ℤ◌, ap, sym, arith, true}
 use Rattle.std.specs.Int.{w128}
-use Rattle.std.proofs.lemmas.Int.{ints, fits_signed_from_abs}
+use Rattle.std.proofs.lemmas.Int.{ints}
 use Rattle.wide_step.specs.Quotient.{HasQuotient}
 use Rattle.wide_step.proofs.Integers.{read_back, products_back, neg-mul}
 use Rattle.std.proofs.Math.IntN.{*ℤ_comm}

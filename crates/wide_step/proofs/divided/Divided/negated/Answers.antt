@@ -1,4 +1,4 @@
-use Rattle.std.proofs.Common.{ℕ, ◌<◌, ◌^◌, ◌+◌, ◌/◌, pos, neg_ℤ, ◌-ℤ◌, arith}
+use Rattle.std.proofs.Common.{◌^◌, ◌+◌, ◌/◌, pos, neg_ℤ, ◌-ℤ◌, arith}
 use Rattle.wide_step.proofs.DividedLemmas.{neg_exact, neg_kept, neg_over, neg_exact_rest, neg_kept_rest}
 use Rattle.wide_step.proofs.divided.Divided.negated.Goals as goal
 

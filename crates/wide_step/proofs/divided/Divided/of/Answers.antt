@@ -1,4 +1,4 @@
-use Rattle.std.proofs.Common.{pos, ◌/◌, arith}
+use Rattle.std.proofs.Common.{pos, ◌/◌}
 use Rattle.std.proofs.lemmas.Nat.{mod_below}
 use Rattle.wide_step.proofs.DividedLemmas.{of_exact, of_kept}
 use Rattle.wide_step.proofs.divided.Divided.of.Goals as goal

@@ -1,4 +1,4 @@
-use Rattle.std.proofs.Common.{ℕ, ◌≡◌, ◌+◌, ◌-◌, ◌*◌, ◌/◌, ◌%◌, ◌^◌, ◌<◌, pos, refl, ◌+ℤ◌, ◌-ℤ◌, arith}
+use Rattle.std.proofs.Common.{ℕ, ◌≡◌, ◌+◌, ◌-◌, ◌*◌, ◌/◌, ◌%◌, ◌^◌, pos, refl, ◌+ℤ◌, ◌-ℤ◌, arith}
 use Rattle.wide_step.proofs.DividedLemmas.{plus_exact, plus_kept}
 use Rattle.wide_step.proofs.divided.Divided.plus.Goals as goal
 

@@ -1,5 +1,4 @@
 use Rattle.std.proofs.Common.{ℤ, ◌+ℤ◌, subst, sym}
-use Rattle.wide_step.specs.declared.divided.Divided.{Divided}
 use Rattle.wide_step.specs.Divided.{IsDivided}
 use Rattle.wide_step.proofs.Product.{odd_total, even_total, end_total}
 use Rattle.wide_step.proofs.divided.Divided.product.Goals as goal
@@ -10,14 +9,14 @@ loop-rest-preserved c =
     let before = c.loop-rest.invariant in
     let twice = c.plus-unit.ensures before.unit_number before.unit_number before.unit_is before.unit_is in
     elim c.if-rest-eq1.branch [
-      then-rest-eq1 w ↦ record {
+      | then-rest-eq1 w ↦ record {
         sum_number = before.sum_number +ℤ before.unit_number;
         unit_number = before.unit_number +ℤ before.unit_number;
         sum_is = subst (IsDivided (before.sum_number +ℤ before.unit_number) c.args.divisor) (sym w.sum-is) (w.plus-sum.ensures before.sum_number before.unit_number before.sum_is before.unit_is);
         unit_is = twice;
         total = odd_total before.sum_number before.unit_number _ c.loop-rest.rest w.if-rest-eq1.true before.total;
       }
-    | else-rest-eq1 w ↦ record {
+      | else-rest-eq1 w ↦ record {
         sum_number = before.sum_number;
         unit_number = before.unit_number +ℤ before.unit_number;
         sum_is = subst (IsDivided before.sum_number c.args.divisor) (sym w.sum-is) before.sum_is;
