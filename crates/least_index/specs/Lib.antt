@@ -1,0 +1,3 @@
+pub mod Tableau
+pub mod Rule
+pub mod Laws
