@@ -1,3 +1,8 @@
 pub mod Signs
 pub mod Sums
 pub mod Exchange
+pub mod First
+pub mod Choice
+pub mod Same
+pub mod Opposed
+pub mod Stretch

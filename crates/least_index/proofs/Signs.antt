@@ -30,3 +30,6 @@ mul_neg (negsuc a) (negsuc b) h k = absurd (omega (arith, ints))
 
 pub positive_is_not_zero : (a : ℤ) → pos 0 <ℤ a → a ≢ pos 0
 positive_is_not_zero a h e = omega (arith, ints)
+
+pub nonneg_of_pos : (a : ℤ) → pos 0 <ℤ a → pos 0 ≤ℤ a
+nonneg_of_pos a h = omega (arith, ints)
