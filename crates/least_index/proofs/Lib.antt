@@ -6,3 +6,4 @@ pub mod Choice
 pub mod Same
 pub mod Opposed
 pub mod Stretch
+pub mod Ends

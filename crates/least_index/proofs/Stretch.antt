@@ -165,11 +165,51 @@ once at n run k a m i j h stretch li lj here there between =
     first_case (inl e) = second_case e again
     first_case (inr e) = third_case e again
 
+-- a stretch is two of smaller variables, and one pivot between them at most
+longer : (at : ℕ → Tableau) (n : ℕ) → IsRun at n → (k : ℕ) → ((a m : ℕ) → a + m ≤ n → IsStretch at k a m → m < 2 ^ k)
+    → (a m : ℕ) → a + m ≤ n → IsStretch at (suc k) a m → m < 2 ^ suc k
+longer at n run k short a m h stretch = found (first (exchanges at k a) m) refl (cases_Bool (nat_lt (first (exchanges at k a) m) m))
+  where
+    double : 2 ^ suc k ≡ 2 ^ k + 2 ^ k
+    double = two-pow-succ k
+    rest : (i : ℕ) → i < m → exchanges at k a i ≡ true → i < 2 ^ k
+        → (nat_lt (first (exchanges at k (a + (i + 1))) (m - (i + 1))) (m - (i + 1)) ≡ true) ⊎ (nat_lt (first (exchanges at k (a + (i + 1))) (m - (i + 1))) (m - (i + 1)) ≡ false)
+        → m < 2 ^ suc k
+    rest i lt here few (inl e) =
+      let below : first (exchanges at k (a + (i + 1))) (m - (i + 1)) < m - (i + 1) = ltb-true (first (exchanges at k (a + (i + 1))) (m - (i + 1))) (m - (i + 1)) e in
+      absurd (once at n run k a m i (first (exchanges at k (a + (i + 1))) (m - (i + 1))) h stretch lt (omega arith) here
+        (first-passes (exchanges at k (a + (i + 1))) (m - (i + 1)) below)
+        (first-below (exchanges at k (a + (i + 1))) (m - (i + 1))))
+    rest i lt here few (inr e) =
+      let all : m - (i + 1) ≤ first (exchanges at k (a + (i + 1))) (m - (i + 1)) = ltb-false (first (exchanges at k (a + (i + 1))) (m - (i + 1))) (m - (i + 1)) e in
+      let few_more : m - (i + 1) < 2 ^ k =
+        short (a + (i + 1)) (m - (i + 1)) (omega arith)
+          (smaller at k (a + (i + 1)) (m - (i + 1)) (m - (i + 1)) (later at (suc k) a m (i + 1) stretch (omega arith)) (omega arith)
+            (λ j l. first-below (exchanges at k (a + (i + 1))) (m - (i + 1)) j (omega arith))) in
+      omega (arith, double)
+    found : (i : ℕ) → first (exchanges at k a) m ≡ i → (nat_lt (first (exchanges at k a) m) m ≡ true) ⊎ (nat_lt (first (exchanges at k a) m) m ≡ false) → m < 2 ^ suc k
+    found i e (inl below) =
+      let lt : first (exchanges at k a) m < m = ltb-true (first (exchanges at k a) m) m below in
+      rest (first (exchanges at k a) m) lt (first-passes (exchanges at k a) m lt)
+        (short a (first (exchanges at k a) m) (omega arith) (smaller at k a m (first (exchanges at k a) m) stretch (omega arith) (first-below (exchanges at k a) m)))
+        (cases_Bool (nat_lt (first (exchanges at k (a + (first (exchanges at k a) m + 1))) (m - (first (exchanges at k a) m + 1))) (m - (first (exchanges at k a) m + 1))))
+    found i e (inr all) =
+      let ge : m ≤ first (exchanges at k a) m = ltb-false (first (exchanges at k a) m) m all in
+      let few : m < 2 ^ k = short a m h (smaller at k a m m stretch (omega arith) (λ j lt. first-below (exchanges at k a) m j (omega arith))) in
+      omega (arith, double)
+
 pub stretch_is_short : (at : ℕ → Tableau) (n : ℕ) → IsRun at n → (k a m : ℕ) → a + m ≤ n → IsStretch at k a m → m < 2 ^ k
 stretch_is_short at n run zero a zero h stretch = pow_pos 0
 stretch_is_short at n run zero a (suc m) h stretch = absurd (let lt : entering (at (a + 0)) < 0 = (stretch 0 (omega arith)).0 in omega arith)
-stretch_is_short at n run (suc k) a m h stretch =
-    found (first (exchanges at k a) m) refl (cases_Bool (nat_lt (first (exchanges at k a) m) m))
+stretch_is_short at n run (suc k) a m h stretch = longer at n run k (stretch_is_short at n run k) a m h stretch
+
+-- a run has fewer than 2^size pivots
+pub run_is_short : (at : ℕ → Tableau) (n : ℕ) → IsRun at n → n < 2 ^ (at 0).size
+run_is_short at n run = stretch_is_short at n run (at 0).size 0 n (omega arith) within
   where
-    found : (i : ℕ) → first (exchanges at k a) m ≡ i → (nat_lt (first (exchanges at k a) m) m ≡ true) ⊎ (nat_lt (first (exchanges at k a) m) m ≡ false) → m < 2 ^ suc k
-    found i e cases = ?
+    within : IsStretch at (at 0).size 0 n
+    within i lt =
+      let e : 0 + i ≡ i = omega arith in
+      let is : IsChoice (at (0 + i)) (leaving (at (0 + i))) (entering (at (0 + i))) = chosen (at (0 + i)) (run.going (0 + i) (omega arith)) in
+      let size : (at (0 + i)).size ≡ (at 0).size = size_of at n run (0 + i) (omega arith) in
+      (omega (arith, size, is.entering_within), omega (arith, size, is.leaving_within))
