@@ -1,7 +1,7 @@
 -- The least number that passes a test.
-use Rattle.std.proofs.Common.{◌≡◌, ◌≢◌, ℕ, zero, suc, ◌+◌, ◌<◌, ◌≤◌, Bool, true, false, cond, ◌⊎◌, inl, inr, refl, sym, ap, ◌∙◌, arith}
+use Rattle.std.proofs.Common.{◌≡◌, ◌≢◌, ℕ, zero, suc, ◌<◌, ◌≤◌, Bool, true, false, cond, ◌⊎◌, inl, inr, refl, sym, ap, ◌∙◌, arith}
 use Rattle.std.specs.Prelude.{nat_lt, ◌==◌}
-use Rattle.std.proofs.lemmas.Bool.{cond-true, cond-false, cases_Bool, ltb-true, ltb-false, eqb-true, eqb-false, true≢false, false≢true}
+use Rattle.std.proofs.lemmas.Bool.{cases_Bool, ltb-true, ltb-false, eqb-true, eqb-false, true≢false}
 use Rattle.least_index.specs.Rule.{first}
 
 le_step : (a b : Bool) (n k : ℕ) → k ≤ n → cond a k (cond b n (suc n)) ≤ suc n
@@ -59,10 +59,10 @@ first-is test n i lt here before = from (cases_Bool (nat_lt (first test n) i)) (
   where
     from : (nat_lt (first test n) i ≡ true) ⊎ (nat_lt (first test n) i ≡ false) → (nat_lt i (first test n) ≡ true) ⊎ (nat_lt i (first test n) ≡ false) → first test n ≡ i
     from (inl a) b =
-      let below : first test n < i = ltb-true (first test n) i a in
-      absurd (true≢false (sym (first-passes test n (omega arith)) ∙ before (first test n) below))
+        let below : first test n < i = ltb-true (first test n) i a in
+        absurd (true≢false (sym (first-passes test n (omega arith)) ∙ before (first test n) below))
     from (inr a) (inl b) = absurd (true≢false (sym here ∙ first-below test n i (ltb-true i (first test n) b)))
     from (inr a) (inr b) =
-      let ge : i ≤ first test n = ltb-false (first test n) i a in
-      let le : first test n ≤ i = ltb-false i (first test n) b in
-      omega arith
+        let ge : i ≤ first test n = ltb-false (first test n) i a in
+        let le : first test n ≤ i = ltb-false i (first test n) b in
+        omega arith

@@ -1,10 +1,10 @@
 -- Sums over the numbers below a bound.
-use Rattle.std.proofs.Common.{◌≡◌, ◌≢◌, ℕ, zero, suc, ◌+◌, ◌*◌, ◌<◌, ◌≤◌, Bool, true, false, cond, ℤ, pos, ◌+ℤ◌, ◌-ℤ◌, ◌*ℤ◌, ◌≤ℤ◌, refl, sym, ap, ◌∙◌, arith}
+use Rattle.std.proofs.Common.{◌≡◌, ◌≢◌, ℕ, zero, suc, ◌<◌, ◌≤◌, Bool, true, false, cond, ℤ, pos, ◌+ℤ◌, ◌-ℤ◌, ◌*ℤ◌, ◌≤ℤ◌, refl, ap, ◌∙◌, arith}
 use Rattle.std.specs.Prelude.{◌==◌}
 use Rattle.std.proofs.lemmas.Int.{ints}
-use Rattle.std.proofs.lemmas.Bool.{cond-true, cond-false, eqb-true, eqb-false, false_from_ne_true}
+use Rattle.std.proofs.lemmas.Bool.{cond-false, eqb-true, eqb-false, false_from_ne_true}
 use Rattle.minors.proofs.Ring.{sums, mul-add, mul_zero}
-use Rattle.least_index.specs.Tableau.{sum_below}
+use Rattle.least_index.specs.System.{sum_below}
 
 pub sum-ext : (f g : ℕ → ℤ) (n : ℕ) → ((w : ℕ) → w < n → f w ≡ g w) → sum_below f n ≡ sum_below g n
 unfolding sum_below
@@ -62,5 +62,5 @@ unfolding sum_below
 sum-at_place place value zero h = absurd (omega arith)
 sum-at_place place value (suc n) h =
     at_step (n == place) value (sum_below (at_place place value) n)
-      (λ e. let s : n ≡ place = eqb-true n place e in sum-after_place place value n (omega arith))
-      (λ e. let ne : n ≢ place = eqb-false n place e in sum-at_place place value n (omega arith))
+    (λ e. let s : n ≡ place = eqb-true n place e in sum-after_place place value n (omega arith))
+    (λ e. let ne : n ≢ place = eqb-false n place e in sum-at_place place value n (omega arith))

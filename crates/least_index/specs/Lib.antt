@@ -1,3 +1,3 @@
-pub mod Tableau
+pub mod System
 pub mod Rule
 pub mod Laws
