@@ -1,0 +1,4 @@
+pub mod Numerals
+pub mod ListSteps
+pub mod SignedCells
+pub mod Laws
