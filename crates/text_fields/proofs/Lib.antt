@@ -1,4 +1,6 @@
 pub mod Numerals
 pub mod ListSteps
 pub mod SignedCells
-pub mod Laws
+pub mod NumberLaws
+pub mod ListLaws
+pub mod WordLaws

@@ -1,8 +1,7 @@
 -- How fields are written: numbers as std's `{}` writes them, and lists of them joined by commas.
-use Rattle.std.specs.Prelude.{◌≡◌, ℕ, ◌<◌, ◌^◌, ◌==◌, Bool, false, List, [], ◌∷◌, ◌++◌, length, ℤ, unsigned_abs}
-use Rattle.std.specs.List.{flat_map}
+use Rattle.std.specs.Prelude.{◌≡◌, ℕ, ◌<◌, ◌≤◌, ◌^◌, ◌==◌, Bool, false, List, [], ◌∷◌, ◌++◌, length, ℤ, unsigned_abs}
+use Rattle.std.specs.List.{All, flat_map}
 use Rattle.std.specs.Char.{is_ascii_digit}
-use Rattle.std.specs.Fmt.{decimal, signed_decimal}
 
 -- the text begins with this byte
 abbrev pub is_next : ℕ → List ℕ → Bool
@@ -30,3 +29,9 @@ certificate_limit = 2 ^ 96
 -- a certificate number is below 2^96 in size
 abbrev pub IsCertificate : ℤ → Type 0
 IsCertificate z = unsigned_abs z < certificate_limit
+
+-- at least one item and at most `room`, each of them such as P says
+pub record IsList {X : Type 0} (P : X → Type 0) (room : ℕ) (xs : List X) : Type 0 where
+  pub some : 1 ≤ length xs
+  pub most : length xs ≤ room
+  pub each : All P xs

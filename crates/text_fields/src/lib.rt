@@ -3,5 +3,9 @@
 
 mod digits;
 mod fields;
+pub mod laws;
 
 pub use fields::Fields;
+
+#[cfg(test)]
+mod tests;

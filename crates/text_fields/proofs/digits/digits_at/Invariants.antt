@@ -1,4 +1,4 @@
-use Rattle.std.proofs.Common.{◌≡◌, ℕ, ◌-◌, ◌<◌, ◌≤◌, length, drop, true}
+use Rattle.std.proofs.Common.{◌≡◌, ◌-◌, ◌≤◌, length, drop, true}
 use Rattle.text_fields.specs.Reading.{digits_after, begins_number}
 use Rattle.text_fields.proofs.digits.digits_at.Given as goal
 

@@ -1,13 +1,14 @@
 -- What is read is spelled so, and what is spelled so is read.
-use Rattle.std.proofs.Common.{◌≡◌, ◌≢◌, ℕ, zero, suc, ◌+◌, ◌-◌, ◌*◌, ◌/◌, ◌%◌, ◌^◌, ◌<◌, ◌≤◌, Bool, true, false, cond, nat_le, nat_eq, ◌&&◌, ◌==◌, not, List, [], ◌∷◌, ◌++◌, length, get_or, take, drop, refl, sym, ap, subst, ◌∙◌, arith, append_assoc, append-nil, Option, Some, None, ◌⊎◌, inl, inr, ℤ, pos, negsuc, rules, lit<}
+use Rattle.std.proofs.Common.{◌≡◌, ◌≢◌, ℕ, zero, suc, ◌+◌, ◌-◌, ◌*◌, ◌/◌, ◌%◌, ◌^◌, ◌<◌, ◌≤◌, Bool, true, false, cond, nat_le, ◌&&◌, ◌==◌, not, List, [], ◌∷◌, ◌++◌, drop, refl, sym, ap, subst, ◌∙◌, arith, append_assoc, Option, Some, None, inl, inr, ℤ, pos, negsuc, lit<}
 use Rattle.std.specs.Char.{is_ascii_digit}
 use Rattle.std.specs.Fmt.{decimal, signed_decimal}
 use Rattle.std.proofs.lemmas.Fmt.{decimal_digit, decimal_step_wide, decimal_by_steps_wide}
-use Rattle.std.proofs.lemmas.Bool.{leb-true, le-leb, cases_eq, eqb-eq}
+use Rattle.std.proofs.lemmas.Bool.{leb-true, le-leb, cases_eq}
 use Rattle.std.proofs.lemmas.Bool.Decides.{nat_tests}
 use Rattle.std.proofs.lemmas.Option.{cond_some}
-use Rattle.text_fields.specs.Spelling.{is_next, EndsNumber, EndsList, listed, certificate_limit, IsCertificate}
-use Rattle.text_fields.specs.Reading.{◌>>=◌, digits_after, begins_number, number_at, certificate_at, negated, more_at, list_at, word_at}
+use Rattle.text_fields.specs.Spelling.{is_next, EndsNumber, certificate_limit, IsCertificate}
+use Rattle.text_fields.specs.Reading.{◌>>=◌, digits_after, begins_number, number_at, certificate_at, negated}
+use Rattle.text_fields.specs.Laws.{IsField}
 use Rattle.text_fields.proofs.Numerals.{digits_after_le}
 
 -- ---- digits
@@ -36,10 +37,10 @@ digits_spell n [] some lt = refl
 digits_spell n (b ∷ text) some lt =
     elim (is_ascii_digit b) as (λ v. is_ascii_digit b ≡ v → (cond v (digits_after (n * 10 + (b - 48)) text) (n, b ∷ text)).0 < 10 ^ 64 → decimal n ++ b ∷ text ≡ decimal (cond v (digits_after (n * 10 + (b - 48)) text) (n, b ∷ text)).0 ++ (cond v (digits_after (n * 10 + (b - 48)) text) (n, b ∷ text)).1) [
       | true ↦ λ digit lt'.
-        let le = digits_after_le (n * 10 + (b - 48)) text in
-        let more = decimal_more n b some digit (omega arith) in
-        let e : decimal n ++ b ∷ text ≡ decimal (n * 10 + (b - 48)) ++ text = rw more (sym (append_assoc (decimal n) (b ∷ []) text)) in
-        e ∙ digits_spell (n * 10 + (b - 48)) text (omega arith) lt'
+          let le = digits_after_le (n * 10 + (b - 48)) text in
+          let more = decimal_more n b some digit (omega arith) in
+          let e : decimal n ++ b ∷ text ≡ decimal (n * 10 + (b - 48)) ++ text = rw more (sym (append_assoc (decimal n) (b ∷ []) text)) in
+          e ∙ digits_spell (n * 10 + (b - 48)) text (omega arith) lt'
       | false ↦ λ _ _. refl
     ] refl lt
 
@@ -64,13 +65,13 @@ digits_fold : (n : ℕ) → n < 10 ^ 64 → Folds n (decimal n)
 unfolding Folds
 digits_fold n lt = decimal_by_steps_wide Folds
     (λ k small rest.
-      let digit = is_digit k small in
-      let e : 0 * 10 + (48 + k - 48) ≡ k = omega arith in
-      rw (digit, e) refl)
+    let digit = is_digit k small in
+    let e : 0 * 10 + (48 + k - 48) ≡ k = omega arith in
+    rw (digit, e) refl)
     (λ k digits big before rest.
-      let digit = is_digit (k % 10) (omega arith) in
-      let e : k / 10 * 10 + (48 + k % 10 - 48) ≡ k = omega arith in
-      rw append_assoc (before ((48 + k % 10) ∷ rest) ∙ rw (digit, e) refl))
+    let digit = is_digit (k % 10) (omega arith) in
+    let e : k / 10 * 10 + (48 + k % 10 - 48) ≡ k = omega arith in
+    rw append_assoc (before ((48 + k % 10) ∷ rest) ∙ rw (digit, e) refl))
     n lt
 
 -- the first digit of a number that isn't 0
@@ -78,16 +79,18 @@ record Leads (n : ℕ) (digits : List ℕ) : Type 0 where
   first : ℕ
   others : List ℕ
   cells : digits ≡ first ∷ others
+  least : 48 ≤ first
   low : 0 < n → 48 < first
   high : first ≤ 57
 
 leads : (n : ℕ) → n < 10 ^ 64 → Leads n (decimal n)
 leads n lt = decimal_by_steps_wide Leads
-    (λ k small. record { first = 48 + k; others = []; cells = refl; low = omega arith; high = omega arith })
+    (λ k small. record { first = 48 + k; others = []; cells = refl; least = omega arith; low = omega arith; high = omega arith })
     (λ k digits big before. record {
       first = before.first;
       others = before.others ++ (48 + k % 10) ∷ [];
       cells = rw before.cells refl;
+      least = before.least;
       low = λ _. before.low (omega arith);
       high = before.high;
     })
@@ -166,24 +169,22 @@ number_takes most text n rest wide e =
 
 -- ---- fields
 
--- what a field of a text is: what is read is spelled so, and what is spelled so is read where it ends
-pub record IsField {X : Type 0} (item : List ℕ → Option (X × List ℕ)) (spell : X → List ℕ) (P : X → Type 0) (Ends : List ℕ → Type 0) : Type 0 where
-  pub takes : (text : List ℕ) (x : X) (rest : List ℕ) → item text ≡ Some (x, rest) → (text ≡ spell x ++ rest) × P x
-  pub again : (x : X) (rest : List ℕ) → P x → Ends rest → item (spell x ++ rest) ≡ Some (x, rest)
-
 pub numbers_field : (most : ℕ) → most < 10 ^ 64 → IsField (number_at most) decimal (λ n. n ≤ most) EndsNumber
 numbers_field most wide = record {
   takes = λ text n rest e. number_takes most text n rest wide e;
   again = λ n rest le ends. number_again most n rest wide le ends;
 }
 
-bind_some : {A B : Type 0} (r : Option A) (f : A → Option B) (y : B) → (r >>= f) ≡ Some y → (x : A) × (r ≡ Some x) × (f x ≡ Some y)
+pub bind_some : {A B : Type 0} (r : Option A) (f : A → Option B) (y : B) → (r >>= f) ≡ Some y → (x : A) × (r ≡ Some x) × (f x ≡ Some y)
 bind_some (Some x) f y e = (x, refl, e)
 bind_some None f y e = absurd cc
 
+pub some_is : {A : Type 0} (x y : A) → Some x ≡ Some y → x ≡ y
+some_is x y e = cc
+
 starts_minus : (text : List ℕ) → is_next 45 text ≡ true → text ≡ 45 ∷ drop 1 text
 starts_minus [] e = absurd cc
-starts_minus (b ∷ text) e = ap (λ (x : ℕ). x ∷ text) (eqb-eq b 45 e)
+starts_minus (b ∷ text) e = let same : b ≡ 45 = grind (arith, nat_tests) in ap (λ (x : ℕ). x ∷ text) same
 
 wide_certificate : certificate_limit - 1 < 10 ^ 64
 wide_certificate = lit< tt
@@ -191,16 +192,40 @@ wide_certificate = lit< tt
 IsCertificateAt : List ℕ → ℤ × List ℕ → Type 0
 IsCertificateAt text found = (text ≡ signed_decimal found.0 ++ found.1) × IsCertificate found.0
 
-negative_takes : (text : List ℕ) (found : ℕ × List ℕ) (z : ℤ) (rest : List ℕ) → text ≡ decimal found.0 ++ found.1 → found.0 ≤ certificate_limit - 1 → negated found ≡ Some (z, rest) → IsCertificateAt (45 ∷ text) (z, rest)
+negative_takes : (text : List ℕ) (found : ℕ × List ℕ) (z : ℤ × List ℕ) → text ≡ decimal found.0 ++ found.1 → found.0 ≤ certificate_limit - 1 → negated found ≡ Some z → IsCertificateAt (45 ∷ text) z
 unfolding IsCertificateAt
-negative_takes text (zero, left) z rest e le n = absurd cc
-negative_takes text (suc k, left) z rest e le n = ?
+negative_takes text (zero, left) z e le n = absurd cc
+negative_takes text (suc k, left) z e le n =
+    subst (IsCertificateAt (45 ∷ text)) (some_is _ _ n) (ap (λ (t : List ℕ). 45 ∷ t) e, omega arith)
 
-pub certificate_takes : (text : List ℕ) (z : ℤ) (rest : List ℕ) → certificate_at text ≡ Some (z, rest) → (text ≡ signed_decimal z ++ rest) × IsCertificate z
+certificate_is : (text : List ℕ) (z : ℤ × List ℕ) → certificate_at text ≡ Some z → IsCertificateAt text z
 unfolding certificate_at IsCertificateAt
-certificate_takes text z rest e = ?
+certificate_is text z e =
+    elim (is_next 45 text) as (λ v. is_next 45 text ≡ v → cond v (number_at (certificate_limit - 1) (drop 1 text) >>= negated) (number_at (certificate_limit - 1) text >>= λ found. Some (pos found.0, found.1)) ≡ Some z → IsCertificateAt text z) [
+      | true ↦ λ minus e'.
+          let b = bind_some (number_at (certificate_limit - 1) (drop 1 text)) negated z e' in
+          let t = number_takes (certificate_limit - 1) (drop 1 text) b.0.0 b.0.1 wide_certificate b.1 in
+          rw (starts_minus text minus) (negative_takes (drop 1 text) b.0 z t.0 t.1 b.2)
+      | false ↦ λ _ e'.
+          let b = bind_some (number_at (certificate_limit - 1) text) (λ found. Some (pos found.0, found.1)) z e' in
+          let t = number_takes (certificate_limit - 1) text b.0.0 b.0.1 wide_certificate b.1 in
+          subst (IsCertificateAt text) (some_is _ _ b.2) (t.0, omega (arith, t.1))
+    ] refl e
 
-pub certificate_again : (z : ℤ) (rest : List ℕ) → IsCertificate z → EndsNumber rest → certificate_at (signed_decimal z ++ rest) ≡ Some (z, rest)
+certificate_again : (z : ℤ) (rest : List ℕ) → IsCertificate z → EndsNumber rest → certificate_at (signed_decimal z ++ rest) ≡ Some (z, rest)
 unfolding certificate_at
-certificate_again (pos n) rest h ends = ?
-certificate_again (negsuc n) rest h ends = ?
+certificate_again (pos n) rest h ends =
+    let lead = leads n (omega arith) in
+    let none : is_next 45 (lead.first ∷ (lead.others ++ rest)) ≡ false = let low = lead.least in grind (arith, nat_tests) in
+    let same : decimal n ++ rest ≡ lead.first ∷ (lead.others ++ rest) = rw lead.cells refl in
+    let none' : is_next 45 (decimal n ++ rest) ≡ false = rw same none in
+    rw (none', number_again (certificate_limit - 1) n rest wide_certificate (omega arith) ends) refl
+certificate_again (negsuc n) rest h ends =
+    rw (number_again (certificate_limit - 1) (suc n) rest wide_certificate (omega arith) ends) refl
+
+pub certificates_field : IsField certificate_at signed_decimal IsCertificate EndsNumber
+unfolding IsCertificateAt
+certificates_field = record {
+  takes = λ text z rest e. certificate_is text (z, rest) e;
+  again = λ z rest h ends. certificate_again z rest h ends;
+}
