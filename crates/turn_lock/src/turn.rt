@@ -1,0 +1,191 @@
+//! The lock and its seats.
+ghost use Rattle.std.specs.Prelude.{◌≡◌, ℕ, ◌+◌, ◌-◌, ◌≤◌, ◌<◌, ◌++◌, ◌⊎◌, [], false, length, None, IfOk};
+ghost use mathlib.Core.List.{IsPrefix};
+ghost use Rattle.turn_lock.specs.Rule.{once, times};
+ghost use Rattle.turn_lock.specs.Steps.{places, log_of};
+ghost use Rattle.turn_lock.specs.Seats.{IsInsideOf, IsOutsideOf, front, given, holding, is_waiting, opening, own, weight, whole_weight};
+
+use crate::journal::Journalled;
+use crate::no_memory::NoMemory;
+use crate::plays::{Cut, Draw, Glue, Look, Mark, Meet, Noted, PassOn};
+use crate::rule::{Board, Opening, Place};
+use crate::wait::pause;
+use atomic_table::Table;
+use std::alloc::Global;
+use std::marker::Brand;
+use std::snapshot::Snapshot;
+use std::sync::Wait;
+
+const COUNT: usize = 0;
+
+const TICKET: usize = 1;
+
+const SERVING: usize = 2;
+
+/// A ticket lock over a state whose list only grows.
+#[derive(Drop)]
+pub struct Turn<S: Journalled> {
+    table: Board<S>,
+    ghost sized: { (table.shared.table_id.words ≡ 3) × (table.shared.table_id.slots ≡ 1) },
+}
+
+/// A right to take turns.
+#[derive(Drop)]
+pub struct TurnSeat<S: Journalled> {
+    place: Place<S>,
+    weight: u64,
+    /// While inside, how many entries the state had that `enter` gave.
+    count: u64,
+    ghost weighs: { (weight ≡ place.me.0.weight) × (weight ≤ 64) },
+    ghost counts: { count ≡ length (log_of place.me.0.stage) },
+    ghost holds: { place.me.1 ≡ holding place.me.0.stage },
+    ghost settled: { is_waiting place.me.0.stage ≡ false },
+}
+
+impl<S: Journalled> Turn<S> {
+    /// A turn around `state`, and one seat with the weight `seats`.
+    pub fn new(alloc: Global, state: S, seats: u32) -> Result<(Turn<S>, TurnSeat<S>), NoMemory>
+    where
+        S: Drop,
+        requires { (1 ≤ seats) × (seats ≤ 64) }
+        ensures turn { IfOk result (λ r. (opening r.0.table.shared.key ≡ state) × (whole_weight r.0.table.shared.key ≡ seats)) }
+        ensures seat { IfOk result (λ r. IsOutsideOf r.0.table.shared.table_id (S.kind state) r.1.place) }
+        ensures knows { IfOk result (λ r. (weight r.1.place ≡ seats) × (front r.1.place ≡ S.entries state) × (own r.1.place ≡ [])) }
+    {
+        let words = [state.count(), 0, 0];
+        let seats = u64::from(seats);
+        let about = Opening {
+            state: Snapshot::of(&state),
+            seats,
+        };
+        let mut slots = Vec::with_capacity(alloc, 1)?;
+        slots.push_reserved(Some(state));
+        let Ok((table, place)) = Table::new(alloc, &words, slots, &about) else {
+            return Err(NoMemory);
+        };
+        let seat = TurnSeat {
+            place,
+            weight: seats,
+            count: 0,
+        };
+        Ok((Turn { table }, seat))
+    }
+
+    /// Cuts a seat of weight 1 off the seat, which has seen as much.
+    pub fn split(&self, seat: &mut TurnSeat<S>) -> TurnSeat<S>
+        requires own { IsOutsideOf self.now.table.shared.table_id (S.kind (opening self.now.table.shared.key)) seat.old.place }
+        requires weight { 2 ≤ weight seat.old.place }
+        ensures seats { IsOutsideOf self.now.table.shared.table_id (S.kind (opening self.now.table.shared.key)) seat.new.place × IsOutsideOf self.now.table.shared.table_id (S.kind (opening self.now.table.shared.key)) result.place }
+        ensures lent { (weight seat.new.place + 1 ≡ weight seat.old.place) × (front seat.new.place ≡ front seat.old.place) × (own seat.new.place ≡ own seat.old.place) }
+        ensures new { (weight result.place ≡ 1) × (front result.place ≡ front seat.old.place) × (own result.place ≡ []) }
+    {
+        let place = self.table.shared.split_seat::<Cut>(&mut seat.place);
+        seat.weight -= 1;
+        TurnSeat {
+            place,
+            weight: 1,
+            count: 0,
+        }
+    }
+
+    /// Waits for the seat's turn, and gives the state. Give it back by `leave`.
+    pub fn enter<R: Wait + Sync>(&self, rt: &R, seat: &mut TurnSeat<S>) -> S
+        requires { IsOutsideOf self.now.table.shared.table_id (S.kind (opening self.now.table.shared.key)) seat.old.place }
+        ensures seat { IsInsideOf self.now.table.shared.table_id (S.kind (opening self.now.table.shared.key)) seat.new.place }
+        ensures state { IsPrefix (front seat.old.place) (S.entries result) × (S.kind result ≡ S.kind (opening self.now.table.shared.key)) }
+        ensures given { given seat.new.place ≡ S.entries result }
+        ensures same { (weight seat.new.place ≡ weight seat.old.place) × (front seat.new.place ≡ front seat.old.place) × (own seat.new.place ≡ own seat.old.place) }
+    {
+        let number = self.table.shared.fetch_add::<Draw>(&mut seat.place, TICKET, 1);
+        self.wait(rt, &mut seat.place, number);
+        let Some(state) = self.table.shared.exchange(&mut seat.place, 0, None) else {
+            unreachable!()
+        };
+        seat.count = state.count();
+        state
+    }
+
+    /// Gives the state back with its new entries, and lets the next seat in.
+    pub fn leave(&self, seat: &mut TurnSeat<S>, state: S)
+        requires seat { IsInsideOf self.now.table.shared.table_id (S.kind (opening self.now.table.shared.key)) seat.old.place }
+        requires state { IsPrefix (given seat.old.place) (S.entries state) × (S.kind state ≡ S.kind (opening self.now.table.shared.key)) }
+        ensures seat { IsOutsideOf self.now.table.shared.table_id (S.kind (opening self.now.table.shared.key)) seat.new.place }
+        ensures front { front seat.new.place ≡ S.entries state }
+        ensures own { own seat.new.place ≡ own seat.old.place ++ places (given seat.old.place) (S.entries state) }
+        ensures same { weight seat.new.place ≡ weight seat.old.place }
+    {
+        let fresh = state.count() - seat.count;
+        self.mark::<Brand>(&mut seat.place, &state, fresh);
+        let nothing = self.table.shared.exchange(&mut seat.place, 0, Some(state));
+        let None = nothing else { unreachable!() };
+        self.table.shared.fetch_add::<PassOn>(&mut seat.place, SERVING, 1);
+        seat.count = 0;
+    }
+
+    /// Joins another seat of this turn into the seat.
+    pub fn join(&self, seat: &mut TurnSeat<S>, other: TurnSeat<S>)
+        requires seat { IsOutsideOf self.now.table.shared.table_id (S.kind (opening self.now.table.shared.key)) seat.old.place }
+        requires other { IsOutsideOf self.now.table.shared.table_id (S.kind (opening self.now.table.shared.key)) other.place }
+        ensures seat { IsOutsideOf self.now.table.shared.table_id (S.kind (opening self.now.table.shared.key)) seat.new.place }
+        ensures weight { weight seat.new.place ≡ weight seat.old.place + weight other.place }
+        ensures front { IsPrefix (front seat.old.place) (front seat.new.place) × IsPrefix (front other.place) (front seat.new.place) × ((front seat.new.place ≡ front seat.old.place) ⊎ (front seat.new.place ≡ front other.place)) }
+        ensures own { own seat.new.place ≡ own seat.old.place ++ own other.place }
+    {
+        let TurnSeat {
+            place,
+            weight,
+            count: _,
+        } = other;
+        self.table.shared.join_seat::<Glue>(&mut seat.place, place);
+        self.table.shared.load::<Meet>(&mut seat.place, COUNT);
+        seat.weight += weight;
+    }
+
+    /// Ends the turn, and gives the state.
+    pub fn close(self, seat: TurnSeat<S>) -> S
+        requires seat { IsOutsideOf self.table.shared.table_id (S.kind (opening self.table.shared.key)) seat.place }
+        requires whole { weight seat.place ≡ whole_weight self.table.shared.key }
+        ensures state { IsPrefix (front seat.place) (S.entries result) × (S.kind result ≡ S.kind (opening self.table.shared.key)) }
+        ensures own { (k : ℕ) → times k (own seat.place) ≡ once (length (S.entries (opening self.table.shared.key))) (length (S.entries result)) k }
+    {
+        let Turn { table } = self;
+        let TurnSeat {
+            place,
+            weight: _,
+            count: _,
+        } = seat;
+        let mut closed = table.close_with(place);
+        let state = closed.take(0);
+        closed.free();
+        let Some(state) = state else { unreachable!() };
+        state
+    }
+
+    // Waits until the number is served. The seat has the slot then.
+    fn wait<R: Wait + Sync>(&self, rt: &R, place: &mut Place<S>, number: u64) {
+        let mut rounds = 0;
+        for _ in rt.forever() {
+            if self.table.shared.load::<Look<S>>(place, SERVING) == number {
+                break;
+            }
+            pause(rounds);
+            rounds = rounds.saturating_add(1);
+        }
+    }
+
+    // Fixes the new entries of the state, with their places.
+    fn mark<N: Noted<S::Entry>>(&self, place: &mut Place<S>, state: &S, fresh: u64) {
+        self.table
+            .shared
+            .fetch_add::<Mark<N>>(place, COUNT, fresh);
+    }
+}
+
+impl<S: Journalled> TurnSeat<S> {
+    /// The weight of the seat: how many seats it can be split into.
+    pub fn weight(&self) -> u64
+        ensures { result ≡ weight self.now.place }
+    {
+        self.weight
+    }
+}
