@@ -1,7 +1,6 @@
 -- The rule of the table behind a turn.
 -- Word 0 is the count of entries, word 1 the next ticket and word 2 the ticket that is served. A number of a word is that of its ticket modulo 2^64.
 use Rattle.std.specs.Prelude.{◌≡◌, ◌⊎◌, ℕ, ◌+◌, ◌-◌, ◌%◌, ◌^◌, ◌<◌, ◌≤◌, ◌==◌, ◌&&◌, Bool, List, [], ◌∷◌, length, Option, Some, None, cond, leb, ltb}
-use Rattle.std.specs.List.{sum_by, count_by}
 use mathlib.Core.Option.{Option as Maybe, none, some}
 use mathlib.Core.List.{IsPrefix}
 use lib.ListN.{get_elem?}
@@ -14,9 +13,14 @@ use Rattle.turn_lock.specs.declared.rule.Stage.TheVariants.{Outside, Waiting, Se
 abbrev pub once : ℕ → ℕ → ℕ → ℕ
 once from to k = cond (leb from k && ltb k to) 1 0
 
+-- f of each element, added up
+abbrev pub total : {X : Type 0} → (X → ℕ) → List X → ℕ
+total f [] = 0
+total f (x ∷ xs) = f x + total f xs
+
 -- how often the number stands in the list
 abbrev pub times : ℕ → List ℕ → ℕ
-times k ks = count_by (λ x. x == k) ks
+times k ks = total (λ n. cond (n == k) 1 0) ks
 
 module _ {E : Type 0} where
   -- 1 where the seat has drawn a ticket and not passed on
@@ -62,20 +66,20 @@ module _ {E K : Type 0} where
 
   -- how many seats are out, and how many with one ticket
   abbrev pub out : List (View E K) → ℕ
-  out views = sum_by (λ v. is_out v.stage) views
+  out views = total (λ v. is_out v.stage) views
 
   abbrev pub with_ticket : ℕ → List (View E K) → ℕ
-  with_ticket k views = sum_by (λ v. has_ticket k v.stage) views
+  with_ticket k views = total (λ v. has_ticket k v.stage) views
 
   abbrev pub served : List (View E K) → ℕ
-  served views = sum_by (λ v. is_served v.stage) views
+  served views = total (λ v. is_served v.stage) views
 
   -- how often the place is an own place of some seat
   abbrev pub owners : ℕ → List (View E K) → ℕ
-  owners k views = sum_by (λ v. times k v.own) views
+  owners k views = total (λ v. times k v.own) views
 
   abbrev pub weight_of_all : List (View E K) → ℕ
-  weight_of_all views = sum_by (λ v. v.weight) views
+  weight_of_all views = total (λ v. v.weight) views
 
 abbrev pub is_home : {X : Type 0} → Maybe X → ℕ
 is_home none = 0

@@ -54,11 +54,13 @@ module _ {S E K : Type 0} where
   abbrev pub drawn : Step (Option S) → Me (Option S) (View E K) → ℕ → Me (Option S) (View E K) → Type 0
   drawn st m found m' = (t : ℕ) × (found ≡ t % 2 ^ 64) × (m' ≡ (at_stage m.0 (Waiting t), m.1))
 
-  -- where its own number was found, the seat has the slot, with a state that begins with the seat's front
+  -- the seat is served and has the slot, with a state that begins with the seat's front
+  abbrev pub Takes : (S → List E) → (S → K) → Me (Option S) (View E K) → Me (Option S) (View E K) → Type 0
+  Takes entries kind m m' = (x : S) × (m' ≡ (at_stage m.0 (Served (ticket_of m.0.stage) (entries x)), (0, Some x) ∷ m.1)) × IsPrefix m.0.front (entries x) × (m.0.kind ≡ Some (kind x))
+
+  -- the seat takes the slot where its own number was found
   abbrev pub looked : (S → List E) → (S → K) → Step (Option S) → Me (Option S) (View E K) → ℕ → Me (Option S) (View E K) → Type 0
-  looked entries kind st m found m' =
-      (found ≡ ticket_of m.0.stage % 2 ^ 64 → (x : S) × (m' ≡ (at_stage m.0 (Served (ticket_of m.0.stage) (entries x)), (0, Some x) ∷ m.1)) × IsPrefix m.0.front (entries x) × (m.0.kind ≡ Some (kind x)))
-      × (found ≢ ticket_of m.0.stage % 2 ^ 64 → m' ≡ m)
+  looked entries kind st m found m' = (found ≡ ticket_of m.0.stage % 2 ^ 64 → Takes entries kind m m') × (found ≢ ticket_of m.0.stage % 2 ^ 64 → m' ≡ m)
 
   abbrev pub marked : List E → Step (Option S) → Me (Option S) (View E K) → ℕ → Me (Option S) (View E K) → Type 0
   marked list st m found m' = m' ≡ (with_list m.0 list, m.1)

@@ -1,9 +1,10 @@
 //! The lock and its seats.
-ghost use Rattle.std.specs.Prelude.{◌≡◌, ℕ, ◌+◌, ◌-◌, ◌≤◌, ◌<◌, ◌++◌, ◌⊎◌, [], false, length, None, IfOk};
+ghost use Rattle.std.specs.Prelude.{◌≡◌, ℕ, ◌+◌, ◌%◌, ◌^◌, ◌≤◌, ◌++◌, ◌⊎◌, [], true, false, length, IfOk, IsSome};
 ghost use mathlib.Core.List.{IsPrefix};
 ghost use Rattle.turn_lock.specs.Rule.{once, times};
-ghost use Rattle.turn_lock.specs.Steps.{places, log_of};
-ghost use Rattle.turn_lock.specs.Seats.{IsInsideOf, IsOutsideOf, front, given, holding, is_waiting, opening, own, weight, whole_weight};
+ghost use Rattle.turn_lock.specs.declared.rule.Stage.TheVariants.{Waiting};
+ghost use Rattle.turn_lock.specs.Steps.{Takes, places, log_of, with_list};
+ghost use Rattle.turn_lock.specs.Seats.{IsInsideOf, IsOutsideOf, front, given, holding, is_inside, is_waiting, opening, own, weight, whole_weight};
 
 use crate::journal::Journalled;
 use crate::no_memory::NoMemory;
@@ -114,8 +115,7 @@ impl<S: Journalled> Turn<S> {
         ensures own { own seat.new.place ≡ own seat.old.place ++ places (given seat.old.place) (S.entries state) }
         ensures same { weight seat.new.place ≡ weight seat.old.place }
     {
-        let fresh = state.count() - seat.count;
-        self.mark::<Brand>(&mut seat.place, &state, fresh);
+        self.mark::<Brand>(&mut seat.place, &state, seat.count);
         let nothing = self.table.shared.exchange(&mut seat.place, 0, Some(state));
         let None = nothing else { unreachable!() };
         self.table.shared.fetch_add::<PassOn>(&mut seat.place, SERVING, 1);
@@ -162,19 +162,32 @@ impl<S: Journalled> Turn<S> {
     }
 
     // Waits until the number is served. The seat has the slot then.
-    fn wait<R: Wait + Sync>(&self, rt: &R, place: &mut Place<S>, number: u64) {
-        let mut rounds = 0;
+    fn wait<R: Wait + Sync>(&self, rt: &R, place: &mut Place<S>, number: u64)
+        requires turn { (place.old.table_id ≡ self.now.table.shared.table_id) × IsSome place.old.me.0.kind }
+        requires waits { (t : ℕ) × (place.old.me.0.stage ≡ Waiting t) × (number ≡ t % 2 ^ 64) }
+        ensures turn { place.new.table_id ≡ place.old.table_id }
+        ensures takes { Takes S.entries S.kind place.old.me place.new.me }
+    {
+        let mut rounds = 0u32;
         for _ in rt.forever() {
             if self.table.shared.load::<Look<S>>(place, SERVING) == number {
-                break;
+                return;
             }
             pause(rounds);
             rounds = rounds.saturating_add(1);
         }
+        unreachable!()
     }
 
-    // Fixes the new entries of the state, with their places.
-    fn mark<N: Noted<S::Entry>>(&self, place: &mut Place<S>, state: &S, fresh: u64) {
+    // Fixes the new entries of the state, with their places. `before` is the count that `enter` found.
+    fn mark<N: Noted<S::Entry>>(&self, place: &mut Place<S>, state: &S, before: u64)
+        requires turn { (place.old.table_id ≡ self.now.table.shared.table_id) × IsSome place.old.me.0.kind }
+        requires served { (is_inside place.old.me.0.stage ≡ true) × (before ≡ length (log_of place.old.me.0.stage)) }
+        requires state { IsPrefix (log_of place.old.me.0.stage) (S.entries state.now) × (N.list ≡ S.entries state.now) }
+        ensures turn { place.new.table_id ≡ place.old.table_id }
+        ensures marks { place.new.me ≡ (with_list place.old.me.0 (S.entries state.now), place.old.me.1) }
+    {
+        let fresh = state.count() - before;
         self.table
             .shared
             .fetch_add::<Mark<N>>(place, COUNT, fresh);

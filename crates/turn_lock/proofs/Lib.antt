@@ -1,0 +1,3 @@
+mod Prefixes
+mod Totals
+mod Keeps
