@@ -1,23 +1,22 @@
 -- Each step of a turn keeps its rule.
-use Rattle.std.proofs.Common.{◌≡◌, ◌≢◌, ◌⊎◌, ℕ, zero, suc, ◌+◌, ◌-◌, ◌*◌, ◌/◌, ◌%◌, ◌^◌, ◌<◌, ◌≤◌, ◌==◌, true, false, cond, Option, Some, None, List, [], ◌∷◌, ◌++◌, length, get_or, set, refl, ap, sym, ◌∙◌, subst, inl, inr, ⊎_elim, arith, length-append, append-nil}
-use Rattle.std.specs.List.{range_with_len}
+use Rattle.std.proofs.Common.{◌≡◌, ◌≢◌, ◌⊎◌, ℕ, ◌+◌, ◌-◌, ◌%◌, ◌^◌, ◌<◌, ◌≤◌, ◌==◌, true, cond, Option, Some, None, List, [], ◌∷◌, length, get_or, set, refl, ap, sym, ◌∙◌, subst, inl, inr, ⊎_elim, arith}
 use Rattle.std.proofs.lemmas.Bool.Decides.{nat_tests}
 use mathlib.Core.Logic.{dite}
-use mathlib.Core.Option.{Option as Maybe, none, some, some-injective}
+use mathlib.Core.Option.{Option as Maybe, none, some}
 use mathlib.Core.List.{IsPrefix}
 use native.Mathlib.Decide.{ℕ_discrete}
 use lib.ListN.{get_elem?}
 use lib.Seq.{set-get_or}
-use Rattle.atomic_table.specs.Table.{State, Me, step, keeps, takes, gives, put_back, stepped, carried_after, Allows, Splits, Joins, opening, Seen, Final}
-use Rattle.atomic_table.proofs.Lists.{at_set, set_again, set_here, set_else, at_snoc, one_turn}
+use Rattle.atomic_table.specs.Table.{State, Me, step, keeps, takes, gives, put_back, rest, stepped, Allows}
+use Rattle.atomic_table.proofs.Lists.{at_set, set_again, one_turn}
 use Rattle.turn_lock.specs.declared.rule.View.{View}
 use Rattle.turn_lock.specs.declared.rule.Stage.{Stage}
 use Rattle.turn_lock.specs.declared.rule.Stage.TheVariants.{Outside, Waiting, Served}
-use Rattle.turn_lock.specs.Rule.{total, times, once, is_out, is_served, has_ticket, Knows, sitting, spent, Sits, out, with_ticket, served, owners, weight_of_all, is_home, Lies, Kept}
-use Rattle.turn_lock.specs.Steps.{ticket_of, log_of, places, at_stage, with_list, back_outside, lighter, cut_off, joined, with_front, drawn, Takes, looked, marked, passed, met}
-use Rattle.turn_lock.specs.Seats.{is_inside}
-use Rattle.turn_lock.proofs.Prefixes.{prefix_same, prefix_on, prefix_le, prefix_of_longer}
-use Rattle.turn_lock.proofs.Totals.{total_set, total_append, total_member, total_two, total_le, total_le_at, total_only, times_append, times_range, once_beside, once_le, once_inside}
+use Rattle.turn_lock.specs.Rule.{total, times, once, is_out, is_served, has_ticket, Knows, spent, Sits, out, weight_of_all, is_home, Lies, Kept}
+use Rattle.turn_lock.specs.Steps.{ticket_of, log_of, places, at_stage, with_list, back_outside, drawn, looked, marked, passed}
+use Rattle.turn_lock.specs.Seats.{is_inside, holding}
+use Rattle.turn_lock.proofs.Prefixes.{prefix_same, prefix_on, prefix_le}
+use Rattle.turn_lock.proofs.Totals.{total_set, total_member, total_two, total_le, total_le_at, times_append, times_range, once_beside, once_le, once_inside}
 
 module _ {V : Type 0} where
   -- what holds of the changed view and of each other one holds of all
@@ -64,7 +63,7 @@ module _ {S E K : Type 0} (entries : S → List E) (kind : S → K) (op : S) (se
   Rule = Kept entries kind op seats
 
   -- a seat with a kind isn't spent
-  seated : (log : List E) (serving : ℕ) (v : V) (k : K) → v.kind ≡ Some k → (v ≡ spent) ⊎ Sits log (kind op) serving v → Sits log (kind op) serving v
+  pub seated : (log : List E) (serving : ℕ) (v : V) (k : K) → v.kind ≡ Some k → (v ≡ spent) ⊎ Sits log (kind op) serving v → Sits log (kind op) serving v
   seated log serving v k is known = ⊎_elim (λ (e : v ≡ spent). let c : v.kind ≡ None = ap (λ (u : V). u.kind) e in absurd cc) (λ s. s) known
 
   out_below : (log : List E) (serving : ℕ) (v : V) → (v ≡ spent) ⊎ Sits log (kind op) serving v → is_out v.stage ≤ v.weight
@@ -86,13 +85,12 @@ module _ {S E K : Type 0} (entries : S → List E) (kind : S → K) (op : S) (se
       let v : V = me.0 in let t : ℕ = r.ticket in let w : V = at_stage v (Waiting t) in
       let mine = seated r.log r.serving v k is (r.each_seat id v at) in
       let each = set_each (λ (d : V). (d ≡ spent) ⊎ Sits r.log (kind op) r.serving d) s.views id w
-          (inr record { stage = tt; weight = mine.weight; front = mine.front; other = mine.other; kind = mine.kind }) (λ j d _ e. r.each_seat j d e) in
+      (inr record { stage = tt; weight = mine.weight; front = mine.front; other = mine.other; kind = mine.kind }) (λ j d _ e. r.each_seat j d e) in
       let all : weight_of_all (set s.views id w) ≡ seats = total_same (λ (d : V). d.weight) s.views id v w at refl ∙ r.weights in
       let was_out : is_out v.stage ≡ 0 = ap is_out outside in
       let was_served : is_served v.stage ≡ 0 = ap is_served outside in
       let o = total_set (λ (d : V). is_out d.stage) s.views id v w at in
-      let count = r.as_many in
-      (
+      let count = r.as_many in (
         w,
         keeps,
         tt,
@@ -118,7 +116,7 @@ module _ {S E K : Type 0} (entries : S → List E) (kind : S → K) (op : S) (se
         (t, word s r 1 _ refl, refl),
       )
 
-  at_home : (log : List E) (of : K) (h : Maybe (Option S)) → is_home h ≡ 1 → Lies entries kind log of h → (x : S) × (h ≡ some (Some x)) × (entries x ≡ log) × (kind x ≡ of)
+  pub at_home : (log : List E) (of : K) (h : Maybe (Option S)) → is_home h ≡ 1 → Lies entries kind log of h → (x : S) × (h ≡ some (Some x)) × (entries x ≡ log) × (kind x ≡ of)
   at_home log of none e l = absurd (omega arith)
   at_home log of (some None) e l = absurd l
   at_home log of (some (Some x)) e l = (x, refl, l.0, l.1)
@@ -187,17 +185,16 @@ module _ {S E K : Type 0} (entries : S → List E) (kind : S → K) (op : S) (se
       let v : V = me.0 in let own : ticket_of v.stage ≡ t = ap ticket_of waits in
       let found : get_or s.words 2 0 ≡ r.serving % 2 ^ 64 = word s r 2 _ refl in
       dite (ℕ_discrete (get_or s.words 2 0) (ticket_of v.stage % 2 ^ 64))
-          (λ hit.
-              let h = finds s r id v t waits at (sym found ∙ (hit ∙ ap (λ (n : ℕ). n % 2 ^ 64) own)) in
-              let mine = seated r.log r.serving v k is (r.each_seat id v at) in
-              (
-                at_stage v (Served (ticket_of v.stage) (entries h.0)),
-                takes 0 (Some h.0),
-                ap (λ (l : List (Maybe (Option S))). get_elem? l 0) r.homes ∙ ap some h.1,
-                takes_slot s r id me t k h.0 waits is at h.4 h.1 h.2,
-                ((λ _. (h.0, refl, subst (IsPrefix v.front) (sym h.2) mine.front, mine.kind ∙ ap Some (sym h.3))), λ miss. absurd (miss hit)),
-              ))
-          (λ miss. (v, keeps, tt, unchanged s r 2 id v me.1 at, ((λ hit. absurd (miss hit)), λ _. refl)))
+      (λ hit.
+      let h = finds s r id v t waits at (sym found ∙ (hit ∙ ap (λ (n : ℕ). n % 2 ^ 64) own)) in
+      let mine = seated r.log r.serving v k is (r.each_seat id v at) in (
+        at_stage v (Served (ticket_of v.stage) (entries h.0)),
+        takes 0 (Some h.0),
+        ap (λ (l : List (Maybe (Option S))). get_elem? l 0) r.homes ∙ ap some h.1,
+        takes_slot s r id me t k h.0 waits is at h.4 h.1 h.2,
+        ((λ _. (h.0, refl, subst (IsPrefix v.front) (sym h.2) mine.front, mine.kind ∙ ap Some (sym h.3))), λ miss. absurd (miss hit)),
+      ))
+      (λ miss. (v, keeps, tt, unchanged s r 2 id v me.1 at, ((λ hit. absurd (miss hit)), λ _. refl)))
 
   others_unserved : (s : St) (r : Rule s) (id : ℕ) (v : V) → get_elem? s.views id ≡ some v → is_served v.stage ≡ 1 → (j : ℕ) (d : V) → j ≢ id → get_elem? s.views j ≡ some d → is_served d.stage ≡ 0
   others_unserved s r id v at one j d n e = let t = total_two (λ (u : V). is_served u.stage) s.views j id d v n e at in let o = r.one_served in omega arith
@@ -213,12 +210,12 @@ module _ {S E K : Type 0} (entries : S → List E) (kind : S → K) (op : S) (se
   -- a seat that is not served, where the list grows or another is served
   sits_on : (log list : List E) (serving serving' : ℕ) (d : V) → IsPrefix log list → is_served d.stage ≡ 0 → (d ≡ spent) ⊎ Sits log (kind op) serving d → (d ≡ spent) ⊎ Sits list (kind op) serving' d
   sits_on log list serving serving' d longer not known = ⊎_elim (λ (e : d ≡ spent). inl e) (λ (t : Sits log (kind op) serving d). inr record {
-      stage = knows_unserved serving' list d.stage not;
-      weight = t.weight;
-      front = prefix_on d.front log list t.front longer;
-      other = prefix_on d.other log list t.other longer;
-      kind = t.kind;
-    }) known
+    stage = knows_unserved serving' list d.stage not;
+    weight = t.weight;
+    front = prefix_on d.front log list t.front longer;
+    other = prefix_on d.other log list t.other longer;
+    kind = t.kind;
+  }) known
 
   pub marks : (slots id : ℕ) (me : M) (k : K) (list : List E) (fresh : ℕ) → is_inside me.0.stage ≡ true → me.0.kind ≡ Some k → IsPrefix (log_of me.0.stage) list
       → length (log_of me.0.stage) + fresh ≡ length list → length list < 2 ^ 64 → Allows Rule slots id me 0 (λ n. (n + fresh) % 2 ^ 64) (marked list (step slots 0 fresh 0 none) me)
@@ -230,8 +227,7 @@ module _ {S E K : Type 0} (entries : S → List E) (kind : S → K) (op : S) (se
       let size : length before ≡ length r.log = ap length log in
       let longer' : IsPrefix r.log list = subst (λ (l : List E). IsPrefix l list) log longer in
       let count : (length r.log + fresh) % 2 ^ 64 ≡ length list = omega arith in
-      let began = r.began in let start = prefix_le (entries op) r.log began in
-      (
+      let began = r.began in let start = prefix_le (entries op) r.log began in (
         w,
         keeps,
         tt,
@@ -277,8 +273,7 @@ module _ {S E K : Type 0} (entries : S → List E) (kind : S → K) (op : S) (se
       let log : log_of v.stage ≡ r.log = knows.1 in let one : is_served v.stage ≡ 1 = knows.2 in let was_out : is_out v.stage ≡ 1 = knows.3 in
       let o = total_set (λ (d : V). is_out d.stage) s.views id v w at in let o' = total_member (λ (d : V). is_out d.stage) s.views id v at in
       let p = total_set (λ (d : V). is_served d.stage) s.views id v w at in
-      let away = is_away s r id v at one in let count = r.as_many in let most = r.at_most in let single = r.one_served in
-      (
+      let away = is_away s r id v at one in let count = r.as_many in let most = r.at_most in let single = r.one_served in (
         w,
         gives,
         tt,
@@ -305,3 +300,15 @@ module _ {S E K : Type 0} (entries : S → List E) (kind : S → K) (op : S) (se
         },
         refl,
       )
+
+nothing_left : {S E : Type 0} (st : Stage E) → rest (holding {S = S} st) ≡ []
+nothing_left Outside = refl
+nothing_left (Waiting n) = refl
+nothing_left (Served n l) = refl
+
+module _ {S E K : Type 0} where
+  -- a seat that has marked the list and put the state back
+  pub put_back_at : (m m' m'' : Me (Option S) (View E K)) (list : List E) (x : S) → m.1 ≡ holding m.0.stage → m' ≡ (with_list m.0 list, m.1) → m'' ≡ (m'.0, (0, Some x) ∷ rest m'.1)
+      → m'' ≡ (with_list m.0 list, (0, Some x) ∷ [])
+  put_back_at m m' m'' list x held marks put =
+      put ∙ (λ i. ((marks i).0, (0, Some x) ∷ rest (marks i).1)) ∙ (λ i. (with_list m.0 list, (0, Some x) ∷ (ap rest held ∙ nothing_left m.0.stage) i))

@@ -1,3 +1,4 @@
 mod Prefixes
 mod Totals
 mod Keeps
+mod Parts

@@ -1,5 +1,5 @@
 //! The lock and its seats.
-ghost use Rattle.std.specs.Prelude.{◌≡◌, ℕ, ◌+◌, ◌%◌, ◌^◌, ◌≤◌, ◌++◌, ◌⊎◌, [], true, false, length, IfOk, IsSome};
+ghost use Rattle.std.specs.Prelude.{◌≡◌, ℕ, ◌+◌, ◌%◌, ◌^◌, ◌≤◌, ◌++◌, ◌⊎◌, [], true, false, length, IfOk};
 ghost use mathlib.Core.List.{IsPrefix};
 ghost use Rattle.turn_lock.specs.Rule.{once, times};
 ghost use Rattle.turn_lock.specs.declared.rule.Stage.TheVariants.{Waiting};
@@ -97,7 +97,10 @@ impl<S: Journalled> Turn<S> {
         ensures given { given seat.new.place ≡ S.entries result }
         ensures same { (weight seat.new.place ≡ weight seat.old.place) × (front seat.new.place ≡ front seat.old.place) × (own seat.new.place ≡ own seat.old.place) }
     {
-        let number = self.table.shared.fetch_add::<Draw>(&mut seat.place, TICKET, 1);
+        let number = self
+            .table
+            .shared
+            .fetch_add::<Draw>(&mut seat.place, TICKET, 1);
         self.wait(rt, &mut seat.place, number);
         let Some(state) = self.table.shared.exchange(&mut seat.place, 0, None) else {
             unreachable!()
@@ -118,7 +121,9 @@ impl<S: Journalled> Turn<S> {
         self.mark::<Brand>(&mut seat.place, &state, seat.count);
         let nothing = self.table.shared.exchange(&mut seat.place, 0, Some(state));
         let None = nothing else { unreachable!() };
-        self.table.shared.fetch_add::<PassOn>(&mut seat.place, SERVING, 1);
+        self.table
+            .shared
+            .fetch_add::<PassOn>(&mut seat.place, SERVING, 1);
         seat.count = 0;
     }
 
@@ -163,7 +168,7 @@ impl<S: Journalled> Turn<S> {
 
     // Waits until the number is served. The seat has the slot then.
     fn wait<R: Wait + Sync>(&self, rt: &R, place: &mut Place<S>, number: u64)
-        requires turn { (place.old.table_id ≡ self.now.table.shared.table_id) × IsSome place.old.me.0.kind }
+        requires turn { (place.old.table_id ≡ self.now.table.shared.table_id) × ((kind : S.Kind) × (place.old.me.0.kind ≡ Some kind)) }
         requires waits { (t : ℕ) × (place.old.me.0.stage ≡ Waiting t) × (number ≡ t % 2 ^ 64) }
         ensures turn { place.new.table_id ≡ place.old.table_id }
         ensures takes { Takes S.entries S.kind place.old.me place.new.me }
@@ -181,16 +186,14 @@ impl<S: Journalled> Turn<S> {
 
     // Fixes the new entries of the state, with their places. `before` is the count that `enter` found.
     fn mark<N: Noted<S::Entry>>(&self, place: &mut Place<S>, state: &S, before: u64)
-        requires turn { (place.old.table_id ≡ self.now.table.shared.table_id) × IsSome place.old.me.0.kind }
+        requires turn { (place.old.table_id ≡ self.now.table.shared.table_id) × ((kind : S.Kind) × (place.old.me.0.kind ≡ Some kind)) }
         requires served { (is_inside place.old.me.0.stage ≡ true) × (before ≡ length (log_of place.old.me.0.stage)) }
         requires state { IsPrefix (log_of place.old.me.0.stage) (S.entries state.now) × (N.list ≡ S.entries state.now) }
         ensures turn { place.new.table_id ≡ place.old.table_id }
         ensures marks { place.new.me ≡ (with_list place.old.me.0 (S.entries state.now), place.old.me.1) }
     {
         let fresh = state.count() - before;
-        self.table
-            .shared
-            .fetch_add::<Mark<N>>(place, COUNT, fresh);
+        self.table.shared.fetch_add::<Mark<N>>(place, COUNT, fresh);
     }
 }
 
