@@ -14,7 +14,7 @@ use Rattle.turn_lock.specs.declared.rule.Stage.{Stage}
 use Rattle.turn_lock.specs.declared.rule.Stage.TheVariants.{Outside, Waiting, Served}
 use Rattle.turn_lock.specs.Rule.{total, times, once, is_out, is_served, has_ticket, Knows, spent, Sits, out, weight_of_all, is_home, Lies, Kept}
 use Rattle.turn_lock.specs.Steps.{ticket_of, log_of, places, at_stage, with_list, back_outside, drawn, looked, marked, passed}
-use Rattle.turn_lock.specs.Seats.{is_inside, holding}
+use Rattle.turn_lock.specs.Steps.{is_inside, holding}
 use Rattle.turn_lock.proofs.Prefixes.{prefix_same, prefix_on, prefix_le}
 use Rattle.turn_lock.proofs.Totals.{total_set, total_member, total_two, total_le, total_le_at, times_append, times_range, once_beside, once_le, once_inside}
 

@@ -1,5 +1,5 @@
 -- What each step tells its seat.
-use Rattle.std.specs.Prelude.{◌≡◌, ◌≢◌, ◌⊎◌, ℕ, ◌+◌, ◌-◌, ◌%◌, ◌^◌, ◌≤◌, List, [], ◌∷◌, ◌++◌, length, Option, Some}
+use Rattle.std.specs.Prelude.{◌≡◌, ◌≢◌, ◌⊎◌, ℕ, ◌+◌, ◌-◌, ◌%◌, ◌^◌, ◌≤◌, Bool, true, false, List, [], ◌∷◌, ◌++◌, length, Option, Some, None}
 use Rattle.std.specs.List.{range_with_len}
 use mathlib.Core.List.{IsPrefix}
 use Rattle.atomic_table.specs.Table.{Me, Step, rest}
@@ -20,6 +20,22 @@ module _ {E : Type 0} where
   log_of Outside = []
   log_of (Waiting n) = []
   log_of (Served n log) = log
+
+  -- what a seat holds of the slot between two calls
+  abbrev pub holding : {S : Type 0} → Stage E → List (ℕ × Option S)
+  holding Outside = []
+  holding (Waiting n) = []
+  holding (Served n log) = (0, None) ∷ []
+
+  abbrev pub is_waiting : Stage E → Bool
+  is_waiting Outside = false
+  is_waiting (Waiting n) = true
+  is_waiting (Served n log) = false
+
+  abbrev pub is_inside : Stage E → Bool
+  is_inside Outside = false
+  is_inside (Waiting n) = false
+  is_inside (Served n log) = true
 
 -- the places from the end of one list up to the end of a longer one
 abbrev pub places : {E : Type 0} → List E → List E → List ℕ

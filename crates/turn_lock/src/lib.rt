@@ -3,12 +3,15 @@
 #![tactic(auto)]
 
 mod journal;
-mod no_memory;
 mod plays;
 mod rule;
 mod turn;
 mod wait;
 
 pub use journal::Journalled;
-pub use no_memory::NoMemory;
+/// The one refusal: there was no memory.
+pub use std::alloc::AllocError as NoMemory;
 pub use turn::{Turn, TurnSeat};
+
+#[cfg(test)]
+mod tests;

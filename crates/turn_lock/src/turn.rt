@@ -1,18 +1,13 @@
 //! The lock and its seats.
-ghost use Rattle.std.specs.Prelude.{◌≡◌, ℕ, ◌+◌, ◌%◌, ◌^◌, ◌≤◌, ◌++◌, ◌⊎◌, [], true, false, length, IfOk};
-ghost use mathlib.Core.List.{IsPrefix};
-ghost use Rattle.turn_lock.specs.Rule.{once, times};
-ghost use Rattle.turn_lock.specs.declared.rule.Stage.TheVariants.{Waiting};
-ghost use Rattle.turn_lock.specs.Steps.{Takes, places, log_of, with_list};
-ghost use Rattle.turn_lock.specs.Seats.{IsInsideOf, IsOutsideOf, front, given, holding, is_inside, is_waiting, opening, own, weight, whole_weight};
+ghost use Rattle.std.specs.Prelude.{◌≡◌, ◌≤◌, false, length};
+ghost use Rattle.turn_lock.specs.Steps.{holding, is_waiting, log_of};
 
 use crate::journal::Journalled;
-use crate::no_memory::NoMemory;
 use crate::plays::{Cut, Draw, Glue, Look, Mark, Meet, Noted, PassOn};
 use crate::rule::{Board, Opening, Place};
 use crate::wait::pause;
 use atomic_table::Table;
-use std::alloc::Global;
+use std::alloc::{AllocError, Global};
 use std::marker::Brand;
 use std::snapshot::Snapshot;
 use std::sync::Wait;
@@ -44,14 +39,21 @@ pub struct TurnSeat<S: Journalled> {
 }
 
 impl<S: Journalled> Turn<S> {
+    ghost use Rattle.std.specs.Prelude.{ℕ, ◌+◌, ◌%◌, ◌^◌, ◌++◌, ◌⊎◌, [], true, IfOk};
+    ghost use mathlib.Core.List.{IsPrefix};
+    ghost use Rattle.turn_lock.specs.declared.rule.Stage.TheVariants.{Waiting};
+    ghost use Rattle.turn_lock.specs.Rule.{once, times};
+    ghost use Rattle.turn_lock.specs.Steps.{Takes, is_inside, places, with_list};
+    ghost use Rattle.turn_lock.specs.Seats.{IsInsideOf, IsOutsideOf, front, given, opening, own, weight, whole_weight};
+
     /// A turn around `state`, and one seat with the weight `seats`.
-    pub fn new(alloc: Global, state: S, seats: u32) -> Result<(Turn<S>, TurnSeat<S>), NoMemory>
+    pub fn new(alloc: Global, state: S, seats: u32) -> Result<(Turn<S>, TurnSeat<S>), AllocError>
     where
         S: Drop,
         requires { (1 ≤ seats) × (seats ≤ 64) }
-        ensures turn { IfOk result (λ r. (opening r.0.table.shared.key ≡ state) × (whole_weight r.0.table.shared.key ≡ seats)) }
-        ensures seat { IfOk result (λ r. IsOutsideOf r.0.table.shared.table_id (S.kind state) r.1.place) }
-        ensures knows { IfOk result (λ r. (weight r.1.place ≡ seats) × (front r.1.place ≡ S.entries state) × (own r.1.place ≡ [])) }
+        ensures turn { IfOk result (λ r. (opening r.0 ≡ state) × (whole_weight r.0 ≡ seats)) }
+        ensures seat { IfOk result (λ r. IsOutsideOf r.0 r.1) }
+        ensures knows { IfOk result (λ r. (weight r.1 ≡ seats) × (front r.1 ≡ S.entries state) × (own r.1 ≡ [])) }
     {
         let words = [state.count(), 0, 0];
         let seats = u64::from(seats);
@@ -62,7 +64,7 @@ impl<S: Journalled> Turn<S> {
         let mut slots = Vec::with_capacity(alloc, 1)?;
         slots.push_reserved(Some(state));
         let Ok((table, place)) = Table::new(alloc, &words, slots, &about) else {
-            return Err(NoMemory);
+            return Err(AllocError);
         };
         let seat = TurnSeat {
             place,
@@ -74,11 +76,11 @@ impl<S: Journalled> Turn<S> {
 
     /// Cuts a seat of weight 1 off the seat, which has seen as much.
     pub fn split(&self, seat: &mut TurnSeat<S>) -> TurnSeat<S>
-        requires own { IsOutsideOf self.now.table.shared.table_id (S.kind (opening self.now.table.shared.key)) seat.old.place }
-        requires weight { 2 ≤ weight seat.old.place }
-        ensures seats { IsOutsideOf self.now.table.shared.table_id (S.kind (opening self.now.table.shared.key)) seat.new.place × IsOutsideOf self.now.table.shared.table_id (S.kind (opening self.now.table.shared.key)) result.place }
-        ensures lent { (weight seat.new.place + 1 ≡ weight seat.old.place) × (front seat.new.place ≡ front seat.old.place) × (own seat.new.place ≡ own seat.old.place) }
-        ensures new { (weight result.place ≡ 1) × (front result.place ≡ front seat.old.place) × (own result.place ≡ []) }
+        requires own { IsOutsideOf self.now seat.old }
+        requires weight { 2 ≤ weight seat.old }
+        ensures seats { IsOutsideOf self.now seat.new × IsOutsideOf self.now result }
+        ensures lent { (weight seat.new + 1 ≡ weight seat.old) × (front seat.new ≡ front seat.old) × (own seat.new ≡ own seat.old) }
+        ensures new { (weight result ≡ 1) × (front result ≡ front seat.old) × (own result ≡ []) }
     {
         let place = self.table.shared.split_seat::<Cut>(&mut seat.place);
         seat.weight -= 1;
@@ -91,11 +93,11 @@ impl<S: Journalled> Turn<S> {
 
     /// Waits for the seat's turn, and gives the state. Give it back by `leave`.
     pub fn enter<R: Wait + Sync>(&self, rt: &R, seat: &mut TurnSeat<S>) -> S
-        requires { IsOutsideOf self.now.table.shared.table_id (S.kind (opening self.now.table.shared.key)) seat.old.place }
-        ensures seat { IsInsideOf self.now.table.shared.table_id (S.kind (opening self.now.table.shared.key)) seat.new.place }
-        ensures state { IsPrefix (front seat.old.place) (S.entries result) × (S.kind result ≡ S.kind (opening self.now.table.shared.key)) }
-        ensures given { given seat.new.place ≡ S.entries result }
-        ensures same { (weight seat.new.place ≡ weight seat.old.place) × (front seat.new.place ≡ front seat.old.place) × (own seat.new.place ≡ own seat.old.place) }
+        requires { IsOutsideOf self.now seat.old }
+        ensures seat { IsInsideOf self.now seat.new }
+        ensures state { IsPrefix (front seat.old) (S.entries result) × (S.kind result ≡ S.kind (opening self.now)) }
+        ensures given { given seat.new ≡ S.entries result }
+        ensures same { (weight seat.new ≡ weight seat.old) × (front seat.new ≡ front seat.old) × (own seat.new ≡ own seat.old) }
     {
         let number = self
             .table
@@ -111,12 +113,12 @@ impl<S: Journalled> Turn<S> {
 
     /// Gives the state back with its new entries, and lets the next seat in.
     pub fn leave(&self, seat: &mut TurnSeat<S>, state: S)
-        requires seat { IsInsideOf self.now.table.shared.table_id (S.kind (opening self.now.table.shared.key)) seat.old.place }
-        requires state { IsPrefix (given seat.old.place) (S.entries state) × (S.kind state ≡ S.kind (opening self.now.table.shared.key)) }
-        ensures seat { IsOutsideOf self.now.table.shared.table_id (S.kind (opening self.now.table.shared.key)) seat.new.place }
-        ensures front { front seat.new.place ≡ S.entries state }
-        ensures own { own seat.new.place ≡ own seat.old.place ++ places (given seat.old.place) (S.entries state) }
-        ensures same { weight seat.new.place ≡ weight seat.old.place }
+        requires seat { IsInsideOf self.now seat.old }
+        requires state { IsPrefix (given seat.old) (S.entries state) × (S.kind state ≡ S.kind (opening self.now)) }
+        ensures seat { IsOutsideOf self.now seat.new }
+        ensures front { front seat.new ≡ S.entries state }
+        ensures own { own seat.new ≡ own seat.old ++ places (given seat.old) (S.entries state) }
+        ensures same { weight seat.new ≡ weight seat.old }
     {
         self.mark::<Brand>(&mut seat.place, &state, seat.count);
         let nothing = self.table.shared.exchange(&mut seat.place, 0, Some(state));
@@ -129,12 +131,12 @@ impl<S: Journalled> Turn<S> {
 
     /// Joins another seat of this turn into the seat.
     pub fn join(&self, seat: &mut TurnSeat<S>, other: TurnSeat<S>)
-        requires seat { IsOutsideOf self.now.table.shared.table_id (S.kind (opening self.now.table.shared.key)) seat.old.place }
-        requires other { IsOutsideOf self.now.table.shared.table_id (S.kind (opening self.now.table.shared.key)) other.place }
-        ensures seat { IsOutsideOf self.now.table.shared.table_id (S.kind (opening self.now.table.shared.key)) seat.new.place }
-        ensures weight { weight seat.new.place ≡ weight seat.old.place + weight other.place }
-        ensures front { IsPrefix (front seat.old.place) (front seat.new.place) × IsPrefix (front other.place) (front seat.new.place) × ((front seat.new.place ≡ front seat.old.place) ⊎ (front seat.new.place ≡ front other.place)) }
-        ensures own { own seat.new.place ≡ own seat.old.place ++ own other.place }
+        requires seat { IsOutsideOf self.now seat.old }
+        requires other { IsOutsideOf self.now other }
+        ensures seat { IsOutsideOf self.now seat.new }
+        ensures weight { weight seat.new ≡ weight seat.old + weight other }
+        ensures front { IsPrefix (front seat.old) (front seat.new) × IsPrefix (front other) (front seat.new) × ((front seat.new ≡ front seat.old) ⊎ (front seat.new ≡ front other)) }
+        ensures own { own seat.new ≡ own seat.old ++ own other }
     {
         let TurnSeat {
             place,
@@ -148,10 +150,10 @@ impl<S: Journalled> Turn<S> {
 
     /// Ends the turn, and gives the state.
     pub fn close(self, seat: TurnSeat<S>) -> S
-        requires seat { IsOutsideOf self.table.shared.table_id (S.kind (opening self.table.shared.key)) seat.place }
-        requires whole { weight seat.place ≡ whole_weight self.table.shared.key }
-        ensures state { IsPrefix (front seat.place) (S.entries result) × (S.kind result ≡ S.kind (opening self.table.shared.key)) }
-        ensures own { (k : ℕ) → times k (own seat.place) ≡ once (length (S.entries (opening self.table.shared.key))) (length (S.entries result)) k }
+        requires seat { IsOutsideOf self seat }
+        requires whole { weight seat ≡ whole_weight self }
+        ensures state { IsPrefix (front seat) (S.entries result) × (S.kind result ≡ S.kind (opening self)) }
+        ensures own { (k : ℕ) → times k (own seat) ≡ once (length (S.entries (opening self))) (length (S.entries result)) k }
     {
         let Turn { table } = self;
         let TurnSeat {
@@ -198,9 +200,11 @@ impl<S: Journalled> Turn<S> {
 }
 
 impl<S: Journalled> TurnSeat<S> {
+    ghost use Rattle.turn_lock.specs.Seats.{weight};
+
     /// The weight of the seat: how many seats it can be split into.
     pub fn weight(&self) -> u64
-        ensures { result ≡ weight self.now.place }
+        ensures { result ≡ weight self.now }
     {
         self.weight
     }

@@ -1,6 +1,6 @@
 use Rattle.std.proofs.Common.{rules, ap, sym, ◌∙◌}
 use Rattle.turn_lock.specs.Steps.{log_of}
-use Rattle.turn_lock.specs.Seats.{is_inside}
+use Rattle.turn_lock.specs.Steps.{is_inside}
 use Rattle.turn_lock.proofs.Keeps.{passes, put_back_at}
 use Rattle.turn_lock.proofs.turn.Turn.leave.Goals as goal
 
