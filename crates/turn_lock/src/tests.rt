@@ -1,4 +1,5 @@
-ghost use Rattle.std.specs.Prelude.{◌≡◌, ℕ, ◌+◌, ◌≤◌, List};
+ghost use Rattle.std.specs.Prelude.{◌≡◌, ℕ, ◌+◌, ◌^◌, ◌<◌, ◌≤◌};
+ghost use Rattle.std.specs.Thread.{IsSync};
 ghost use mathlib.Core.List.{IsPrefix};
 ghost use Rattle.turn_lock.specs.Seats.{IsOutsideOf, weight, whole_weight};
 
@@ -113,5 +114,99 @@ fn two_threads_append(rt: HostRuntime) -> Result<(), Fail> {
     assert!(rt; all.len() == 200);
     assert!(rt; all.iter().filter(|n| **n == 1).count() == 100);
     assert!(rt; all.iter().filter(|n| **n == 2).count() == 100);
+    Ok(())
+}
+
+// Cuts a seat of weight 2 off the seat.
+fn pair(turn: &Turn<Numbers>, seat: &mut TurnSeat<Numbers>) -> TurnSeat<Numbers>
+    requires seat { IsOutsideOf turn.now seat.old }
+    requires weight { 3 ≤ weight seat.old }
+    ensures seats { IsOutsideOf turn.now seat.new × IsOutsideOf turn.now result }
+    ensures weights { (weight seat.new + 2 ≡ weight seat.old) × (weight result ≡ 2) }
+{
+    let mut two = turn.split(seat);
+    let one = turn.split(seat);
+    turn.join(&mut two, one);
+    two
+}
+
+// In each of 25 rounds the seat is cut in two, both add the number, and they are joined again.
+fn cut_and_join<R: Wait + Sync>(
+    rt: &R,
+    turn: &Turn<Numbers>,
+    mut seat: TurnSeat<Numbers>,
+    number: u64,
+) -> TurnSeat<Numbers>
+    requires { IsOutsideOf turn.now seat × (weight seat ≡ 2) }
+    ensures { IsOutsideOf turn.now result × (weight result ≡ 2) }
+{
+    for _ in 0..25 {
+        let mut other = turn.split(&mut seat);
+        append(rt, turn, &mut other, number);
+        append(rt, turn, &mut seat, number);
+        turn.join(&mut seat, other);
+    }
+    seat
+}
+
+fn both_cut_and_join<R: Threads + Wait + Sync>(
+    rt: &R,
+    turn: &Turn<Numbers>,
+    first: TurnSeat<Numbers>,
+    second: TurnSeat<Numbers>,
+    number: u64,
+) -> TurnSeat<Numbers>
+    requires numbers { number < 2 ^ 8 }
+    requires first { IsOutsideOf turn.now first × (weight first ≡ 2) }
+    requires second { IsOutsideOf turn.now second × (weight second ≡ 2) }
+    ensures { IsOutsideOf turn.now result × (weight result ≡ 4) }
+{
+    let (mut first, second) = join(
+        rt,
+        || -> TurnSeat<Numbers>
+            requires { IsOutsideOf turn.now first × (weight first ≡ 2) }
+            ensures { IsOutsideOf turn.entry.now result × (weight result ≡ 2) }
+        { cut_and_join(rt, turn, first, number) },
+        || -> TurnSeat<Numbers>
+            requires { IsOutsideOf turn.now second × (weight second ≡ 2) × (number < 2 ^ 8) }
+            ensures { IsOutsideOf turn.entry.now result × (weight result ≡ 2) }
+        { cut_and_join(rt, turn, second, number + 1) },
+    );
+    turn.join(&mut first, second);
+    first
+}
+
+fn appended_by_four<R: Threads + Wait + Sync>(
+    rt: &R,
+    alloc: Global,
+) -> Result<Numbers, AllocError> {
+    let (turn, mut a) = Turn::new(alloc, Numbers::with_room(alloc, 200)?, 8)?;
+    let b = pair(&turn, &mut a);
+    let c = pair(&turn, &mut a);
+    let d = pair(&turn, &mut a);
+    let lent = &turn;
+    let (mut first, second) = join(
+        rt,
+        || -> TurnSeat<Numbers>
+            requires { IsSync R.row × IsOutsideOf lent.now a × (weight a ≡ 2) × IsOutsideOf lent.now b × (weight b ≡ 2) }
+            ensures { IsOutsideOf lent.entry.now result × (weight result ≡ 4) }
+        { both_cut_and_join(rt, lent, a, b, 0) },
+        || -> TurnSeat<Numbers>
+            requires { IsSync R.row × IsOutsideOf lent.now c × (weight c ≡ 2) × IsOutsideOf lent.now d × (weight d ≡ 2) }
+            ensures { IsOutsideOf lent.entry.now result × (weight result ≡ 4) }
+        { both_cut_and_join(rt, lent, c, d, 2) },
+    );
+    turn.join(&mut first, second);
+    Ok(turn.close(first))
+}
+
+#[test]
+fn four_threads_cut_and_join(rt: HostRuntime) -> Result<(), Fail> {
+    let numbers = appended_by_four(&rt, rt.alloc())?;
+    let all = numbers.list.as_slice();
+    assert!(rt; all.len() == 200);
+    for number in 0..4u64 {
+        assert!(rt; all.iter().filter(|n| **n == number).count() == 50);
+    }
     Ok(())
 }
