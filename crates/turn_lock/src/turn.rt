@@ -5,9 +5,9 @@ ghost use Rattle.turn_lock.specs.Steps.{holding, is_waiting, log_of};
 use crate::journal::Journalled;
 use crate::plays::{Cut, Draw, Glue, Look, Mark, Meet, Noted, PassOn};
 use crate::rule::{Board, Opening, Place};
-use crate::wait::pause;
 use atomic_table::Table;
-use std::alloc::{AllocError, Global};
+use std::alloc::{AllocError as NoMemory, Global};
+use std::hint;
 use std::marker::Brand;
 use std::snapshot::Snapshot;
 use std::sync::Wait;
@@ -17,6 +17,14 @@ const COUNT: usize = 0;
 const TICKET: usize = 1;
 
 const SERVING: usize = 2;
+
+// How often a seat looks before it sleeps.
+const SPINS: u32 = 256;
+
+// The half of a word that a sleep compares.
+fn low_half(word: u64) -> u32 {
+    (word & 0xffff_ffff) as u32
+}
 
 /// A ticket lock over a state whose list only grows.
 #[derive(Drop)]
@@ -47,7 +55,7 @@ impl<S: Journalled> Turn<S> {
     ghost use Rattle.turn_lock.specs.Seats.{IsInsideOf, IsOutsideOf, front, given, opening, own, weight, whole_weight};
 
     /// A turn around `state`, and one seat with the weight `seats`.
-    pub fn new(alloc: Global, state: S, seats: u32) -> Result<(Turn<S>, TurnSeat<S>), AllocError>
+    pub fn new(alloc: Global, state: S, seats: u32) -> Result<(Turn<S>, TurnSeat<S>), NoMemory>
     where
         S: Drop,
         requires { (1 ≤ seats) × (seats ≤ 64) }
@@ -64,7 +72,7 @@ impl<S: Journalled> Turn<S> {
         let mut slots = Vec::with_capacity(alloc, 1)?;
         slots.push_reserved(Some(state));
         let Ok((table, place)) = Table::new(alloc, &words, slots, &about) else {
-            return Err(AllocError);
+            return Err(NoMemory);
         };
         let seat = TurnSeat {
             place,
@@ -123,10 +131,14 @@ impl<S: Journalled> Turn<S> {
         self.mark::<Brand>(&mut seat.place, &state, seat.count);
         let nothing = self.table.shared.exchange(&mut seat.place, 0, Some(state));
         let None = nothing else { unreachable!() };
-        self.table
+        let served = self
+            .table
             .shared
             .fetch_add::<PassOn>(&mut seat.place, SERVING, 1);
         seat.count = 0;
+        if self.table.shared.peek(TICKET) != served.wrapping_add(1) {
+            self.table.shared.wake_all(SERVING);
+        }
     }
 
     /// Joins another seat of this turn into the seat.
@@ -175,13 +187,18 @@ impl<S: Journalled> Turn<S> {
         ensures turn { place.new.table_id ≡ place.old.table_id }
         ensures takes { Takes S.entries S.kind place.old.me place.new.me }
     {
-        let mut rounds = 0u32;
+        let mut spins = 0u32;
         for _ in rt.forever() {
-            if self.table.shared.load::<Look<S>>(place, SERVING) == number {
+            let served = self.table.shared.load::<Look<S>>(place, SERVING);
+            if served == number {
                 return;
             }
-            pause(rounds);
-            rounds = rounds.saturating_add(1);
+            if spins < SPINS {
+                spins += 1;
+                hint::spin_loop();
+            } else {
+                self.table.shared.park(rt, SERVING, low_half(served));
+            }
         }
         unreachable!()
     }

@@ -4,8 +4,8 @@ use Rattle.turn_lock.specs.Steps.{is_inside}
 use Rattle.turn_lock.proofs.Keeps.{passes, put_back_at}
 use Rattle.turn_lock.proofs.turn.Turn.leave.Goals as goal
 
-pub fetch_add-requires : goal.fetch_add-requires
-fetch_add-requires g c =
+pub fetch_add-served-requires : goal.fetch_add-served-requires
+fetch_add-served-requires g c =
     let me = put_back_at c.args.seat.now.place.me _ _ _ c.args.state c.args.seat.now.holds c.mark.ensures.marks c.exchange-nothing.ensures.3 in (
       search rules,
       search rules,
