@@ -308,7 +308,19 @@ nothing_left (Served n l) = refl
 
 module _ {S E K : Type 0} where
   -- a seat that has marked the list and put the state back
-  pub put_back_at : (m m' m'' : Me (Option S) (View E K)) (list : List E) (x : S) → m.1 ≡ holding m.0.stage → m' ≡ (with_list m.0 list, m.1) → m'' ≡ (m'.0, (0, Some x) ∷ rest m'.1)
+  put_back_at : (m m' m'' : Me (Option S) (View E K)) (list : List E) (x : S) → m.1 ≡ holding m.0.stage → m' ≡ (with_list m.0 list, m.1) → m'' ≡ (m'.0, (0, Some x) ∷ rest m'.1)
       → m'' ≡ (with_list m.0 list, (0, Some x) ∷ [])
   put_back_at m m' m'' list x held marks put =
       put ∙ (λ i. ((marks i).0, (0, Some x) ∷ rest (marks i).1)) ∙ (λ i. (with_list m.0 list, (0, Some x) ∷ (ap rest held ∙ nothing_left m.0.stage) i))
+
+  pub passes_back : (entries : S → List E) (kind : S → K) (op : S) (seats slots id : ℕ) (m m' m'' : Me (Option S) (View E K)) (k : K) (x : S) → m.1 ≡ holding m.0.stage → m.0.kind ≡ Some k
+      → m' ≡ (with_list m.0 (entries x), m.1) → m'' ≡ (m'.0, (0, Some x) ∷ rest m'.1) → kind x ≡ kind op
+      → Allows (Kept entries kind op seats) slots id m'' 2 (λ n. (n + 1) % 2 ^ 64) (passed (step slots 2 1 0 none) m'')
+  passes_back entries kind op seats slots id m m' m'' k x held is marks put of =
+      let me = put_back_at m m' m'' (entries x) x held marks put in
+      passes entries kind op seats slots id m'' k x (ap (λ (n : Me (Option S) (View E K)). is_inside n.0.stage) me) (ap (λ (n : Me (Option S) (View E K)). n.0.kind) me ∙ is)
+      (ap (λ (n : Me (Option S) (View E K)). n.1) me) (sym (ap (λ (n : Me (Option S) (View E K)). log_of n.0.stage) me)) of
+
+  -- a seat that took the slot can exchange what it has
+  pub has_slot : (held : List (ℕ × Option S)) (m : Me (Option S) (View E K)) (w : View E K) (y : Option S) → m ≡ (w, (0, y) ∷ held) → (old : Option S) × (m.1 ≡ (0, old) ∷ rest m.1)
+  has_slot held m w y is = let e = ap (λ (n : Me (Option S) (View E K)). n.1) is in (y, e ∙ (λ i. (0, y) ∷ ap rest (sym e) i))

@@ -1,4 +1,4 @@
-mod Prefixes
-mod Totals
+pub mod Prefixes
+pub mod Totals
 mod Keeps
 mod Parts

@@ -181,10 +181,14 @@ module _ {S E K : Type 0} (entries : S → List E) (kind : S → K) (op : S) (se
   all_its : (s : St) (r : Rule s) (id : ℕ) (v : V) → get_elem? s.views id ≡ some v → v.weight ≡ seats → (f : V → ℕ) → f spent ≡ 0 → total f s.views ≡ f v
   all_its s r id v at whole f none_spent = total_only f s.views id v at (λ j d n e. ap f (alone s r id v at whole j d n e) ∙ none_spent)
 
-  -- what the last seat learns of the state that the slot has
+  -- what the last seat learns of the state
+  abbrev pub Last : V → S → Type 0
+  Last v x =
+      IsPrefix v.front (entries x) × (kind x ≡ kind op) × IsPrefix (entries op) (entries x)
+      × ((n : ℕ) → times n v.own ≡ once (length (entries op)) (length (entries x)) n)
+
   pub closes : (id : ℕ) (v : V) (k : K) (ws : List ℕ) (xs : List (Option S)) (y : Option S) → v.kind ≡ Some k → v.stage ≡ Outside → v.weight ≡ seats
-      → Final (Seen Rule id v) ws xs → get_elem? xs 0 ≡ some y
-      → (x : S) × (y ≡ Some x) × IsPrefix v.front (entries x) × (kind x ≡ kind op) × ((n : ℕ) → times n v.own ≡ once (length (entries op)) (length (entries x)) n)
+      → Final (Seen Rule id v) ws xs → get_elem? xs 0 ≡ some y → (x : S) × (y ≡ Some x) × Last v x
   closes id v k ws xs y is outside whole final has =
       let s = final.0 in let r = final.1.0 in let at = final.1.1 in
       let serve = all_its s r id v at whole (λ (d : V). is_served d.stage) refl in
@@ -193,10 +197,9 @@ module _ {S E K : Type 0} (entries : S → List E) (kind : S → K) (op : S) (se
       let h = at_home entries kind op seats r.log (kind op) r.home (omega arith) r.slot in
       let mine = seated entries kind op seats r.log r.serving v k is (r.each_seat id v at) in
       let home : get_elem? s.homes 0 ≡ some (some (Some h.0)) = ap (λ (l : List (Maybe (Option S))). get_elem? l 0) r.homes ∙ ap some h.1 in
-      let same : y ≡ Some h.0 = some-injective y (Some h.0) (sym has ∙ final.4 0 (Some h.0) home) in (
-        h.0,
-        same,
-        subst (IsPrefix v.front) (sym h.2) mine.front,
-        h.3,
-        (λ n. sym (all_its s r id v at whole (λ (d : V). times n d.own) refl) ∙ (r.owned n ∙ ap (λ (l : List E). once (length (entries op)) (length l) n) (sym h.2))),
-      )
+      let same : y ≡ Some h.0 = some-injective y (Some h.0) (sym has ∙ final.4 0 (Some h.0) home) in
+      let counts = λ (n : ℕ). sym (all_its s r id v at whole (λ (d : V). times n d.own) refl) ∙ (r.owned n ∙ ap (λ (l : List E). once (length (entries op)) (length l) n) (sym h.2)) in
+      (h.0, same, (subst (IsPrefix v.front) (sym h.2) mine.front, h.3, subst (IsPrefix (entries op)) (sym h.2) r.began, counts))
+
+  pub closes_with : (v : V) (x : S) (y : Option S) → (l : S) × (y ≡ Some l) × Last v l → y ≡ Some x → Last v x
+  closes_with v x y last is = let had = last.1 in let same : last.0 ≡ x = cc in subst (Last v) same last.2

@@ -64,23 +64,27 @@ module _ {E K : Type 0} where
     pub other : IsPrefix v.other log
     pub kind : v.kind ≡ Some of
 
-  -- how many seats are out, and how many with one ticket
+  -- how many seats are out
   abbrev pub out : List (View E K) → ℕ
   out views = total (λ v. is_out v.stage) views
 
+  -- how many are out with this ticket
   abbrev pub with_ticket : ℕ → List (View E K) → ℕ
   with_ticket k views = total (λ v. has_ticket k v.stage) views
 
+  -- how many are served
   abbrev pub served : List (View E K) → ℕ
   served views = total (λ v. is_served v.stage) views
 
-  -- how often the place is an own place of some seat
+  -- how often the place is an own place, over all seats
   abbrev pub owners : ℕ → List (View E K) → ℕ
   owners k views = total (λ v. times k v.own) views
 
+  -- the weights of all seats, added up
   abbrev pub weight_of_all : List (View E K) → ℕ
   weight_of_all views = total (λ v. v.weight) views
 
+-- 1 where the slot is at home
 abbrev pub is_home : {X : Type 0} → Maybe X → ℕ
 is_home none = 0
 is_home (some x) = 1

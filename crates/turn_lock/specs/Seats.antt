@@ -28,6 +28,7 @@ module _ {S E K : Type 0} {g : Ghosts S E K} where
   abbrev pub IsInsideOf : Turn S E K → TurnSeat S E K g → Type 0
   IsInsideOf t p = IsSeatOf t p × (is_inside p.place.me.0.stage ≡ true)
 
+  -- how many seats it can be split into
   abbrev pub weight : TurnSeat S E K g → ℕ
   weight p = p.place.me.0.weight
 

@@ -27,11 +27,13 @@ module _ {E : Type 0} where
   holding (Waiting n) = []
   holding (Served n log) = (0, None) ∷ []
 
+  -- it has drawn a ticket and is not served yet
   abbrev pub is_waiting : Stage E → Bool
   is_waiting Outside = false
   is_waiting (Waiting n) = true
   is_waiting (Served n log) = false
 
+  -- it is served
   abbrev pub is_inside : Stage E → Bool
   is_inside Outside = false
   is_inside (Waiting n) = false
@@ -42,6 +44,7 @@ abbrev pub places : {E : Type 0} → List E → List E → List ℕ
 places before after = range_with_len (length before) (length after - length before)
 
 module _ {E K : Type 0} where
+  -- at another stage, with all else the same
   abbrev pub at_stage : View E K → Stage E → View E K
   at_stage v stage = record v { stage = stage }
 
@@ -53,15 +56,19 @@ module _ {E K : Type 0} where
   abbrev pub back_outside : View E K → View E K
   back_outside v = record v { stage = Outside; front = log_of v.stage }
 
+  -- what is left of a seat after a split
   abbrev pub lighter : View E K → View E K
   lighter v = record v { weight = v.weight - 1 }
 
+  -- the new seat of a split, with weight 1, the same front and no own places
   abbrev pub cut_off : View E K → View E K
   cut_off v = sitting 1 v.front [] v.kind
 
+  -- both weights, both fronts and the own places of both
   abbrev pub joined : View E K → View E K → View E K
   joined v w = record v { weight = v.weight + w.weight; other = w.front; own = v.own ++ w.own }
 
+  -- with one front, and no other to compare
   abbrev pub with_front : View E K → List E → View E K
   with_front v front = record v { front = front; other = [] }
 
@@ -78,9 +85,11 @@ module _ {S E K : Type 0} where
   abbrev pub looked : (S → List E) → (S → K) → Step (Option S) → Me (Option S) (View E K) → ℕ → Me (Option S) (View E K) → Type 0
   looked entries kind st m found m' = (found ≡ ticket_of m.0.stage % 2 ^ 64 → Takes entries kind m m') × (found ≢ ticket_of m.0.stage % 2 ^ 64 → m' ≡ m)
 
+  -- the list is fixed, and the slot stays with the seat
   abbrev pub marked : List E → Step (Option S) → Me (Option S) (View E K) → ℕ → Me (Option S) (View E K) → Type 0
   marked list st m found m' = m' ≡ (with_list m.0 list, m.1)
 
+  -- the seat gave the slot back
   abbrev pub passed : Step (Option S) → Me (Option S) (View E K) → ℕ → Me (Option S) (View E K) → Type 0
   passed st m found m' = m' ≡ (back_outside m.0, rest m.1)
 

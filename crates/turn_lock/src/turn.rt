@@ -33,7 +33,8 @@ pub struct Turn<S: Journalled> {
     ghost sized: { (table.shared.table_id.words ≡ 3) × (table.shared.table_id.slots ≡ 1) },
 }
 
-/// A right to take turns.
+/// A right to take turns. The weight of a seat that is dropped stays out, so its turn is never closed, and one that
+/// is dropped inside lets no other in.
 #[derive(Drop)]
 pub struct TurnSeat<S: Journalled> {
     place: Place<S>,
@@ -165,6 +166,7 @@ impl<S: Journalled> Turn<S> {
         requires seat { IsOutsideOf self seat }
         requires whole { weight seat ≡ whole_weight self }
         ensures state { IsPrefix (front seat) (S.entries result) × (S.kind result ≡ S.kind (opening self)) }
+        ensures began { IsPrefix (S.entries (opening self)) (S.entries result) }
         ensures own { (k : ℕ) → times k (own seat) ≡ once (length (S.entries (opening self))) (length (S.entries result)) k }
     {
         let Turn { table } = self;

@@ -1,6 +1,5 @@
-use Rattle.std.proofs.Common.{◌∷◌, Some, rules, ap, sym, ◌∙◌}
-use Rattle.atomic_table.specs.Table.{rest}
-use Rattle.turn_lock.proofs.Keeps.{draws}
+use Rattle.std.proofs.Common.{rules, ap, ◌∙◌}
+use Rattle.turn_lock.proofs.Keeps.{draws, has_slot}
 use Rattle.turn_lock.proofs.turn.Turn.enter.Goals as goal
 
 pub fetch_add-number-requires : goal.fetch_add-number-requires
@@ -10,4 +9,4 @@ pub wait-requires-clause-turn : goal.wait-requires-clause-turn
 wait-requires-clause-turn g c κs h = (search rules, (_, ap (λ m. m.0.kind) c.fetch_add-number.ensures.2.2 ∙ c.requires.0.1))
 
 pub exchange-requires : goal.exchange-requires
-exchange-requires g c = let x = c.wait.ensures.takes in let e = ap (λ m. m.1) x.1 in (search rules, (Some x.0, e ∙ (λ i. (0, Some x.0) ∷ ap rest (sym e) i)))
+exchange-requires g c = (search rules, has_slot _ _ _ _ c.wait.ensures.takes.1)
