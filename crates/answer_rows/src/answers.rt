@@ -4,7 +4,7 @@ ghost use Rattle.criteria_model.specs.Answers.{gain};
 ghost use Rattle.criteria_model.specs.Pairs.{IsFit};
 ghost use Rattle.answer_rows.specs.Room.{room_of, BeginsWith};
 
-use criteria_model::Answer;
+use criteria_model::{Answer, Model, Row};
 use edges::NoMemory;
 use std::alloc::Global;
 
@@ -79,6 +79,19 @@ impl Answers {
         ensures { slice_get self.now.answers (number - 1) ≡ Some result }
     {
         self.items[number as usize - 1]
+    }
+
+    /// For each increment, whether the winner of the numbered answer has it minus whether the loser has it. Of an
+    /// equal answer the left side counts as the winner.
+    pub fn row_of(&self, model: &Model, number: u32) -> Row
+        requires low { 1 ≤ number }
+        requires high { number ≤ length self.now.answers }
+        requires fits { ForSome (slice_get self.now.answers (number - 1)) (λ answer. IsFit model.now.levels answer.pair) }
+        requires hidden { ⊥ }
+        ensures { IfSome (slice_get self.now.answers (number - 1)) (λ answer. result ≡ gain model.now.levels answer.pair answer.side) }
+    {
+        let answer = &self.items[number as usize - 1];
+        model.gain(&answer.pair, answer.side)
     }
 
     /// The answers, in order.

@@ -1,3 +1,1 @@
-pub mod Integers
-pub mod Rows
 pub mod Ranking

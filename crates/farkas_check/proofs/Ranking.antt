@@ -19,8 +19,8 @@ use Rattle.farkas_check.specs.declared.combination.Combination.{Combination}
 use Rattle.farkas_check.specs.Sums.{cited_side, cited_gain, total}
 use Rattle.farkas_check.specs.Proof.{MayWeigh, IsStrict, HasStrict, Proves}
 use Rattle.farkas_check.specs.Laws.{ProvedIsRanked}
-use Rattle.farkas_check.proofs.Integers.{mul_nonneg, mul_positive, positive_from_multiple, zero_from_multiple}
-use Rattle.farkas_check.proofs.Rows.{dot-plus, dot-minus, dot-times}
+use Rattle.criteria_model.proofs.Integers.{mul_nonneg, mul_positive, positive_from_multiple, zero_from_multiple}
+use Rattle.criteria_model.proofs.RowLemmas.{dot-plus, dot-minus, dot-times}
 
 -- what a ranking says of the worth of the gain
 abbrev Favours : Side → ℤ → Type 0
@@ -97,7 +97,7 @@ module _ (levels : List ℕ) (answers : List Answer) (v : List ℤ) where
   -- one cite adds weight times what its answer gains
   added : (own : List ℤ) (cite : Cite) → dot v (plus own (times cite.weight (cited_gain levels answers cite))) ≡ dot v own +ℤ (cite.weight *ℤ dot v (cited_gain levels answers cite))
   added own cite =
-      dot-plus v own (times cite.weight (cited_gain levels answers cite)) ∙ ap (λ x. dot v own +ℤ x) (dot-times v cite.weight (cited_gain levels answers cite))
+      dot-plus v own (times cite.weight (cited_gain levels answers cite)) ∙ ap (λ x. dot v own +ℤ x) (dot-times cite.weight v (cited_gain levels answers cite))
 
   total_at_least : (own : List ℤ) (cites : List Cite) → All (IsMet levels answers v) cites → dot v own ≤ℤ dot v (total levels answers own cites)
   total_at_least own [] met = omega (arith, ints)
@@ -189,7 +189,7 @@ module _ (levels : List ℕ) (answers : List Answer) (c : Combination) (v : List
   }
 
   multiple : (pair : Pair) (side : Side) → Proves levels answers c pair side → c.scale *ℤ dot v (gain levels pair side) ≡ dot v (total levels answers c.increments c.answers)
-  multiple pair side proof = sym (dot-times v c.scale (gain levels pair side)) ∙ ap (dot v) proof.sums
+  multiple pair side proof = sym (dot-times c.scale v (gain levels pair side)) ∙ ap (dot v) proof.sums
 
   total_positive : (pair : Pair) (side : Side) → Proves levels answers c pair side → HasStrict answers c → pos 1 ≤ℤ dot v (total levels answers c.increments c.answers)
   total_positive pair side proof strict =

@@ -1,14 +1,19 @@
 -- Lists of cites.
-use Rattle.std.specs.Prelude.{◌≡◌, ◌≢◌, ℕ, ◌-◌, ◌^◌, ◌<◌, ◌≤◌, List, ◌++◌, length, take, drop, replicate, All, AllPairs, ℤ, pos, unsigned_abs}
+use Rattle.std.specs.Prelude.{◌≢◌, ℕ, ◌^◌, ◌<◌, ◌≤◌, List, length, map, All, ℤ, pos, unsigned_abs}
+use Rattle.std.specs.List.Sorted.{IsStrictlyIncreasing}
 use Rattle.farkas_check.specs.declared.cites.Cite.{Cite}
 
--- what a combination may cite: at most 24 answers, each once and in ascending order, none with weight 0
+-- the number of an answer, and a weight below 2^96 in size that isn't 0
+pub record IsCite (cite : Cite) : Type 0 where
+  pub numbered : 1 ≤ cite.answer
+  pub weighed : cite.weight ≢ pos 0
+  pub within : unsigned_abs cite.weight < 2 ^ 96
+
+-- a list that `Cites` holds: at most 24 cites, each answer once and in ascending order
 pub record AreCites (cites : List Cite) : Type 0 where
   pub most : length cites ≤ 24
-  pub numbered : All (λ cite. 1 ≤ cite.answer) cites
-  pub ascending : AllPairs (λ cite later. cite.answer < later.answer) cites
-  pub weighed : All (λ cite. cite.weight ≢ pos 0) cites
-  pub within : All (λ cite. unsigned_abs cite.weight < 2 ^ 96) cites
+  pub each : All IsCite cites
+  pub ascending : IsStrictlyIncreasing (map (λ cite. cite.answer) cites)
 
 -- what stands in a cell that holds no cite
 abbrev pub no_cite : Cite

@@ -8,6 +8,7 @@ use Rattle.criteria_model.specs.declared.pairs.Side.TheVariants.{Left, Right, Eq
 use Rattle.criteria_model.specs.Rows.{times}
 use Rattle.criteria_model.specs.Worth.{increments}
 use Rattle.criteria_model.specs.Answers.{gain}
+use Rattle.farkas_check.specs.declared.cites.Cite.{Cite}
 use Rattle.farkas_check.specs.declared.combination.Combination.{Combination}
 use Rattle.farkas_check.specs.Sums.{cited_side, total}
 
@@ -43,9 +44,13 @@ HasScale combination = pos 1 ≤ℤ combination.scale
 abbrev pub HasOwnWeights : Combination → Type 0
 HasOwnWeights combination = All (λ weight. pos 0 ≤ℤ weight) combination.increments
 
+-- the cited answer is there
+abbrev pub IsThere : List Answer → Cite → Type 0
+IsThere answers cite = (1 ≤ cite.answer) × (cite.answer ≤ length answers)
+
 -- each cited answer is there
 abbrev pub HasCited : List Answer → Combination → Type 0
-HasCited answers combination = All (λ cite. (1 ≤ cite.answer) × (cite.answer ≤ length answers)) combination.answers
+HasCited answers combination = All (IsThere answers) combination.answers
 
 -- each weight may stand on its answer
 abbrev pub HasWeights : List Answer → Combination → Type 0

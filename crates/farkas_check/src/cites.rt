@@ -1,5 +1,6 @@
-ghost use Rattle.std.specs.Prelude.{◌≡◌, ◌↔◌, ◌-◌, ◌≤◌, Some, length, slice_get, IsSome, IfSome};
-ghost use Rattle.farkas_check.specs.Cited.{AreCites};
+ghost use Rattle.std.specs.Prelude.{◌≡◌, ◌↔◌, ◌-◌, ◌≤◌, Some, length, map, slice_get, IsTrue, IsSome, IfSome};
+ghost use Rattle.std.specs.List.Sorted.{IsStrictlyIncreasing};
+ghost use Rattle.farkas_check.specs.Cited.{IsCite, AreCites};
 
 use std::marker::Model;
 
@@ -44,12 +45,41 @@ const NO_CITE: Cite = Cite {
 };
 
 impl Cites {
+    /// The list of these cites, or `None` where they are more than 24, one has the answer 0, the weight 0 or a weight
+    /// of 2^96 or more in size, or their answers don't strictly ascend.
+    pub fn of(items: &[Cite]) -> Option<Cites>
+        ensures known { IsSome result ↔ AreCites items.now }
+        ensures value { IfSome result (λ cites. cites ≡ items.now) }
+    {
+        if !are_cites(items) {
+            return None;
+        }
+        let count = items.len();
+        let mut cells = [NO_CITE; 24];
+        cells[..count].copy_from_slice(items);
+        Some(Cites {
+            items: cells,
+            len: count as u8,
+        })
+    }
+
     /// The number of cites.
-    pub fn len(&self) -> usize
+    pub fn len(&self) -> u32
         ensures value { result ≡ length self.now }
         ensures range { AreCites self.now }
     {
-        usize::from(self.len)
+        u32::from(self.len)
+    }
+
+    /// The cite at a place; places count from 1.
+    pub fn cite(&self, place: u32) -> Cite
+        requires low { 1 ≤ place }
+        requires high { place ≤ length self.now }
+        ensures value { slice_get self.now (place - 1) ≡ Some result }
+        ensures range { IsCite result }
+    {
+        let items = self.as_slice();
+        items[place as usize - 1]
     }
 
     /// The cites, in order.
@@ -59,4 +89,22 @@ impl Cites {
     {
         &self.items[..usize::from(self.len)]
     }
+}
+
+fn are_cites(items: &[Cite]) -> bool
+    ensures { IsTrue result ↔ AreCites items.now }
+{
+    items.len() <= 24 && items.iter().all(is_cite) && is_ascending(items)
+}
+
+fn is_cite(cite: &Cite) -> bool
+    ensures { IsTrue result ↔ IsCite cite.now }
+{
+    cite.answer >= 1 && cite.weight != 0 && cite.weight.unsigned_abs() < 1 << 96
+}
+
+fn is_ascending(items: &[Cite]) -> bool
+    ensures { IsTrue result ↔ IsStrictlyIncreasing (map (λ cite. cite.answer) items.now) }
+{
+    items.is_sorted_by(|cite, next| cite.answer < next.answer)
 }

@@ -9,3 +9,4 @@ mod cites;
 mod combination;
 mod flaws;
 pub mod laws;
+mod parts;
