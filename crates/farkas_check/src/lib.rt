@@ -10,3 +10,4 @@ mod combination;
 mod flaws;
 pub mod laws;
 mod parts;
+mod sums;
