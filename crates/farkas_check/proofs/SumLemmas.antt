@@ -1,9 +1,24 @@
 -- Adding a multiple of a row, one place after another, and how large the sums grow.
-use Rattle.std.proofs.Common.{◌≡◌, ℕ, zero, suc, ◌+◌, ◌*◌, ◌<◌, ◌≤◌, List, [], ◌∷◌, length, take, get_or, set, All, ℤ, pos, ◌+ℤ◌, ◌*ℤ◌, unsigned_abs, refl, ap, sym, ◌∙◌, rules, arith}
+use Rattle.std.proofs.Common.{◌≡◌, ℕ, zero, suc, ◌+◌, ◌-◌, ◌*◌, ◌^◌, ◌<◌, ◌≤◌, List, [], ◌∷◌, length, take, get_or, set, All, ℤ, pos, ◌+ℤ◌, ◌*ℤ◌, unsigned_abs, Option, Some, None, IfSome, slice_get, inl, inr, fold, subst, refl, ap, sym, ◌∙◌, rules, arith}
+use Rattle.std.specs.Option.{option_map_or}
 use Rattle.std.proofs.lemmas.Int.{ints, unsigned_abs-mul}
 use Rattle.std.proofs.Math.Nat.{mul-le-mul}
 use Rattle.std.proofs.lemmas.List.Elements.{All-cons, All-head, All-tail, All-nil, All-weaker}
+use Rattle.std.proofs.lemmas.List.Sums.{fold_more}
+use Rattle.std.proofs.lemmas.Option.{slice_get_cases}
+use Rattle.criteria_model.specs.declared.pairs.Pair.{Pair}
+use Rattle.criteria_model.specs.declared.pairs.Answer.{Answer}
+use Rattle.criteria_model.specs.declared.pairs.Side.{Side}
+use Rattle.criteria_model.specs.declared.pairs.Side.TheVariants.{Left, Right, Equal}
 use Rattle.criteria_model.specs.Rows.{plus, times}
+use Rattle.criteria_model.specs.Worth.{increments, has}
+use Rattle.criteria_model.specs.Pairs.{IsFit}
+use Rattle.criteria_model.specs.Answers.{gain}
+use Rattle.criteria_model.proofs.RowLemmas.{length-minus}
+use Rattle.criteria_model.proofs.LevelLemmas.{length-has}
+use Rattle.farkas_check.specs.declared.cites.Cite.{Cite}
+use Rattle.farkas_check.specs.Sums.{cited_gain, total}
+use Rattle.farkas_check.specs.Proof.{IsThere}
 use Rattle.criteria_model.proofs.Integers.{unsigned_abs-add}
 
 pub plus-nil : (a : List ℤ) → plus a [] ≡ a
@@ -38,3 +53,52 @@ plus-times_small (x ∷ a) w (y ∷ row) b n small weight unit len =
         omega (arith, unsigned_abs-add x (w *ℤ y), unsigned_abs-mul w y, mul-le-mul weight y_small, x_small) in
     All-cons (λ x. unsigned_abs x ≤ b + n) (x +ℤ (w *ℤ y)) (plus a (times w row)) here
     (plus-times_small a w row b n (All-tail (λ x. unsigned_abs x ≤ b) x a small) weight (All-tail (λ x. unsigned_abs x ≤ 1) y row unit) (omega arith))
+
+-- ---- the totals of the first cites
+-- the sums are the totals of the first i cites, and no larger than those can be
+pub record AreTotals (levels : List ℕ) (answers : List Answer) (own : List ℤ) (cites : List Cite) (i : ℕ) (sums : List ℤ) : Type 0 where
+  pub sum : sums ≡ total levels answers own (take i cites)
+  pub small : All (λ x. unsigned_abs x ≤ 2 ^ 96 * (i + 1)) sums
+
+pub length-gain : (levels : List ℕ) (pair : Pair) (side : Side) → IsFit levels pair → length (gain levels pair side) ≡ increments levels
+length-gain levels pair Left fit = omega (arith, length-minus (has levels pair.left) (has levels pair.right), length-has levels pair.left fit.left_len, length-has levels pair.right fit.right_len)
+length-gain levels pair Right fit = omega (arith, length-minus (has levels pair.right) (has levels pair.left), length-has levels pair.left fit.left_len, length-has levels pair.right fit.right_len)
+length-gain levels pair Equal fit = omega (arith, length-minus (has levels pair.left) (has levels pair.right), length-has levels pair.left fit.left_len, length-has levels pair.right fit.right_len)
+
+-- the answer of a number that is there
+pub there : (answers : List Answer) (number : ℕ) → 1 ≤ number → number ≤ length answers → (answer : Answer) × (number - 1 < length answers) × (slice_get answers (number - 1) ≡ Some answer) × (get_or answers (number - 1) answer ≡ answer)
+there answers number low high = elim (slice_get_cases answers (number - 1)).1 [ inl found ↦ found | inr past ↦ absurd (omega (arith, past.0)) ]
+
+pub length-cited_gain : (levels : List ℕ) (answers : List Answer) (cite : Cite) → IsThere answers cite → All (λ answer. IsFit levels answer.pair) answers → length (cited_gain levels answers cite) ≡ increments levels
+length-cited_gain levels answers cite is_there fit =
+    let (answer, within, is, at) = there answers cite.answer is_there.0 is_there.1 in
+    rw is (length-gain levels answer.pair answer.side (subst (λ (a : Answer). IsFit levels a.pair) at (fit (cite.answer - 1) answer within)))
+
+row_at : (levels : List ℕ) (found : Option Answer) (answer : Answer) (row : List ℤ) → found ≡ Some answer → IfSome found (λ a. row ≡ gain levels a.pair a.side) → row ≡ option_map_or (λ a. gain levels a.pair a.side) found []
+row_at levels None answer row is h = absurd (cc)
+row_at levels (Some a) answer row is h = h
+
+-- the row of a cited answer is the cite's gain
+pub row_is_cited_gain : (levels : List ℕ) (answers : List Answer) (cite : Cite) (row : List ℤ) → IsThere answers cite → IfSome (slice_get answers (cite.answer - 1)) (λ a. row ≡ gain levels a.pair a.side) → row ≡ cited_gain levels answers cite
+row_is_cited_gain levels answers cite row is_there h =
+    let (answer, within, is, at) = there answers cite.answer is_there.0 is_there.1 in
+    row_at levels (slice_get answers (cite.answer - 1)) answer row is h
+
+pub AreTotals-none : (levels : List ℕ) (answers : List Answer) (own : List ℤ) (cites : List Cite) → All (λ x. unsigned_abs x < 2 ^ 96) own → AreTotals levels answers own cites 0 own
+AreTotals-none levels answers own cites small = record {
+  sum = refl;
+  small = λ k d within. omega (arith, small k d within);
+}
+
+pub AreTotals-more : (levels : List ℕ) (answers : List Answer) (own : List ℤ) (cites : List Cite) (i : ℕ) (sums : List ℤ) (d : Cite)
+    → AreTotals levels answers own cites i sums → i < length cites → unsigned_abs (get_or cites i d).weight < 2 ^ 96
+    → All (λ x. unsigned_abs x ≤ 1) (cited_gain levels answers (get_or cites i d)) → length (cited_gain levels answers (get_or cites i d)) ≤ length sums
+    → AreTotals levels answers own cites (i + 1) (plus sums (times (get_or cites i d).weight (cited_gain levels answers (get_or cites i d))))
+AreTotals-more levels answers own cites i sums d totals within weight unit len = record {
+  sum =
+    ap (λ s. plus s (times (get_or cites i d).weight (cited_gain levels answers (get_or cites i d)))) totals.sum
+    ∙ sym (fold_more (λ s cite. plus s (times cite.weight (cited_gain levels answers cite))) own cites i d within);
+  small = λ k e in_sums.
+    omega
+    (arith, plus-times_small sums (get_or cites i d).weight (cited_gain levels answers (get_or cites i d)) (2 ^ 96 * (i + 1)) (2 ^ 96) totals.small (omega (arith, weight)) unit len k e in_sums);
+}
