@@ -87,7 +87,6 @@ impl Answers {
         requires low { 1 ≤ number }
         requires high { number ≤ length self.now.answers }
         requires fits { ForSome (slice_get self.now.answers (number - 1)) (λ answer. IsFit model.now.levels answer.pair) }
-        requires hidden { ⊥ }
         ensures { IfSome (slice_get self.now.answers (number - 1)) (λ answer. result ≡ gain model.now.levels answer.pair answer.side) }
     {
         let answer = &self.items[number as usize - 1];

@@ -6,16 +6,12 @@ use Rattle.std.proofs.Math.Nat.{mul-le-mul}
 use Rattle.std.proofs.lemmas.List.Elements.{All-cons, All-head, All-tail, All-nil, All-weaker}
 use Rattle.std.proofs.lemmas.List.Sums.{fold_more}
 use Rattle.std.proofs.lemmas.Option.{slice_get_cases}
-use Rattle.criteria_model.specs.declared.pairs.Pair.{Pair}
 use Rattle.criteria_model.specs.declared.pairs.Answer.{Answer}
-use Rattle.criteria_model.specs.declared.pairs.Side.{Side}
-use Rattle.criteria_model.specs.declared.pairs.Side.TheVariants.{Left, Right, Equal}
 use Rattle.criteria_model.specs.Rows.{plus, times}
-use Rattle.criteria_model.specs.Worth.{increments, has}
+use Rattle.criteria_model.specs.Worth.{increments}
 use Rattle.criteria_model.specs.Pairs.{IsFit}
 use Rattle.criteria_model.specs.Answers.{gain}
-use Rattle.criteria_model.proofs.RowLemmas.{length-minus}
-use Rattle.criteria_model.proofs.LevelLemmas.{length-has}
+use Rattle.criteria_model.proofs.GainLemmas.{length-gain}
 use Rattle.farkas_check.specs.declared.cites.Cite.{Cite}
 use Rattle.farkas_check.specs.Sums.{cited_gain, total}
 use Rattle.farkas_check.specs.Proof.{IsThere}
@@ -59,11 +55,6 @@ plus-times_small (x ∷ a) w (y ∷ row) b n small weight unit len =
 pub record AreTotals (levels : List ℕ) (answers : List Answer) (own : List ℤ) (cites : List Cite) (i : ℕ) (sums : List ℤ) : Type 0 where
   pub sum : sums ≡ total levels answers own (take i cites)
   pub small : All (λ x. unsigned_abs x ≤ 2 ^ 96 * (i + 1)) sums
-
-pub length-gain : (levels : List ℕ) (pair : Pair) (side : Side) → IsFit levels pair → length (gain levels pair side) ≡ increments levels
-length-gain levels pair Left fit = omega (arith, length-minus (has levels pair.left) (has levels pair.right), length-has levels pair.left fit.left_len, length-has levels pair.right fit.right_len)
-length-gain levels pair Right fit = omega (arith, length-minus (has levels pair.right) (has levels pair.left), length-has levels pair.left fit.left_len, length-has levels pair.right fit.right_len)
-length-gain levels pair Equal fit = omega (arith, length-minus (has levels pair.left) (has levels pair.right), length-has levels pair.left fit.left_len, length-has levels pair.right fit.right_len)
 
 -- the answer of a number that is there
 pub there : (answers : List Answer) (number : ℕ) → 1 ≤ number → number ≤ length answers → (answer : Answer) × (number - 1 < length answers) × (slice_get answers (number - 1) ≡ Some answer) × (get_or answers (number - 1) answer ≡ answer)

@@ -4,10 +4,12 @@
 pub use cites::{Cite, Cites};
 pub use combination::Combination;
 pub use flaws::Flaw;
+pub use proof::{flaw, proves};
 
 mod cites;
 mod combination;
 mod flaws;
 pub mod laws;
 mod parts;
+mod proof;
 mod sums;

@@ -11,9 +11,6 @@ use Rattle.farkas_check.proofs.SumLemmas.{row_is_cited_gain, length-cited_gain, 
 use Rattle.farkas_check.proofs.sums.add_cites.Goals as goal
 use Rattle.farkas_check.proofs.sums.add_cites.Goals.{After-as_slice}
 
-pub row_of-row-requires-clause-hidden : goal.row_of-row-requires-clause-hidden
-row_of-row-requires-clause-hidden c = ?
-
 -- ---- this turn's cite and its row
 module _ (c : After-as_slice) where
   abbrev cite : Cite
