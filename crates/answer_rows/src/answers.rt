@@ -145,3 +145,6 @@ fn append(items: &mut Vec<Answer>, more: &[Answer])
 {
     let _appended = items.extend_from_slice(more);
 }
+
+#[cfg(test)]
+mod tests;

@@ -1,6 +1,6 @@
 -- A proved verdict is the ranking of the pair: by values that meet the answers, each cited term of the total has the
 -- sign of its weight, so the total has the sign that the verdict asks for, and so has the verdict's own gain.
-use Rattle.std.proofs.Common.{◌≡◌, ◌⊎◌, ℕ, zero, suc, ◌-◌, ◌<◌, ◌≤◌, List, [], ◌∷◌, ◌++◌, length, take, get_or, fold, All, Any, Option, Some, slice_get, ℤ, pos, negsuc, ◌+ℤ◌, ◌*ℤ◌, ◌<ℤ◌, ◌≤ℤ◌, refl, sym, ap, subst, ◌∙◌, inl, inr, ⊎_elim, arith}
+use Rattle.std.proofs.Common.{◌≡◌, ◌⊎◌, ℕ, zero, suc, ◌-◌, ◌≤◌, List, [], ◌∷◌, ◌++◌, length, take, get_or, All, Any, Option, Some, ℤ, pos, negsuc, ◌+ℤ◌, ◌*ℤ◌, ◌<ℤ◌, ◌≤ℤ◌, refl, sym, ap, subst, ◌∙◌, inl, inr, arith}
 use Rattle.std.specs.Option.{option_map_or}
 use Rattle.std.proofs.Math.Seq.{take-append_seam}
 use Rattle.std.proofs.Math.IntN.{*ℤ-zero, zero-*ℤ, *ℤ_comm}
@@ -12,8 +12,8 @@ use Rattle.criteria_model.specs.declared.pairs.Answer.{Answer}
 use Rattle.criteria_model.specs.declared.pairs.Side.{Side}
 use Rattle.criteria_model.specs.declared.pairs.Side.TheVariants.{Left, Right, Equal}
 use Rattle.criteria_model.specs.Rows.{dot, plus, times}
-use Rattle.criteria_model.specs.Worth.{has, worth, IsValueVector}
-use Rattle.criteria_model.specs.Answers.{Ranks, Meets, MeetsAll, gain}
+use Rattle.criteria_model.specs.Worth.{has, IsValueVector}
+use Rattle.criteria_model.specs.Answers.{Ranks, Meets, gain}
 use Rattle.farkas_check.specs.declared.cites.Cite.{Cite}
 use Rattle.farkas_check.specs.declared.combination.Combination.{Combination}
 use Rattle.farkas_check.specs.Sums.{cited_side, cited_gain, total}
@@ -86,8 +86,8 @@ Favours-from_cite : (levels : List ℕ) (answers : List Answer) (v : List ℤ) (
     → (1 ≤ cite.answer) × (cite.answer ≤ length answers) → Favours (cited_side answers cite) (dot v (cited_gain levels answers cite))
 Favours-from_cite levels answers v cite meets there =
     elim (slice_get_cases answers (cite.answer - 1)).1 [
-      inl found ↦ Favours-from_answer levels v _ found.0 found.2 (subst (Meets levels v) found.3 (meets (cite.answer - 1) found.0 found.1))
-    | inr past ↦ absurd (omega (arith, there.0, there.1, past.0))
+      | inl found ↦ Favours-from_answer levels v _ found.0 found.2 (subst (Meets levels v) found.3 (meets (cite.answer - 1) found.0 found.1))
+      | inr past ↦ absurd (omega (arith, there.0, there.1, past.0))
     ]
 
 abbrev IsStrictCite : List Answer → Cite → Type 0
@@ -115,14 +115,14 @@ module _ (levels : List ℕ) (answers : List Answer) (v : List ℤ) where
       let others = All-tail (IsMet levels answers v) cite cites met in
       let more = plus own (times cite.weight (cited_gain levels answers cite)) in
       elim (Any-cases (IsStrictCite answers) cite cites strict) [
-        inl now ↦
-          let step : dot v own <ℤ dot v more = omega (arith, ints, added own cite, term_positive (cited_side answers cite) cite.weight _ now here.favours) in
-          let rest = total_at_least more cites others in
-          omega (arith, ints, step, rest)
-      | inr later ↦
-          let step : dot v own ≤ℤ dot v more = omega (arith, ints, added own cite, term_nonneg (cited_side answers cite) cite.weight _ here.may here.favours) in
-          let rest = total_more more cites others later in
-          omega (arith, ints, step, rest)
+        | inl now ↦
+            let step : dot v own <ℤ dot v more = omega (arith, ints, added own cite, term_positive (cited_side answers cite) cite.weight _ now here.favours) in
+            let rest = total_at_least more cites others in
+            omega (arith, ints, step, rest)
+        | inr later ↦
+            let step : dot v own ≤ℤ dot v more = omega (arith, ints, added own cite, term_nonneg (cited_side answers cite) cite.weight _ here.may here.favours) in
+            let rest = total_more more cites others later in
+            omega (arith, ints, step, rest)
       ]
 
   total_same : (own : List ℤ) (cites : List Cite) → All (IsMet levels answers v) cites → ¬ Any (IsStrictCite answers) cites → dot v (total levels answers own cites) ≡ dot v own
@@ -132,7 +132,7 @@ module _ (levels : List ℕ) (answers : List Answer) (v : List ℤ) where
       let others = All-tail (IsMet levels answers v) cite cites met in
       let more = plus own (times cite.weight (cited_gain levels answers cite)) in
       let step : dot v more ≡ dot v own =
-          omega (arith, ints, added own cite, term_zero (cited_side answers cite) cite.weight (dot v (cited_gain levels answers cite)) here.may (λ now. loose (Any-here (IsStrictCite answers) cite cites now)) here.favours) in
+      omega (arith, ints, added own cite, term_zero (cited_side answers cite) cite.weight (dot v (cited_gain levels answers cite)) here.may (λ now. loose (Any-here (IsStrictCite answers) cite cites now)) here.favours) in
       total_same more cites others (λ later. loose (Any-there (IsStrictCite answers) cite cites later)) ∙ step
 
 -- ---- the increments' own weights
@@ -163,10 +163,10 @@ own_positive (x ∷ v) (w ∷ own) len values weights strict =
     let v_low = All-tail IsPositive x v values in
     let own_low = All-tail IsNotNegative w own weights in
     elim (Any-cases IsAboveZero w own strict) [
-      inl now ↦ omega (arith, ints, mul_positive x w x_low (omega (arith, ints, now)), own_nonneg v own v_low own_low)
-    | inr later ↦
-        let rest = own_positive v own (omega arith) v_low own_low later in
-        omega (arith, ints, mul_nonneg x w (omega (arith, ints, x_low)) w_low, rest)
+      | inl now ↦ omega (arith, ints, mul_positive x w x_low (omega (arith, ints, now)), own_nonneg v own v_low own_low)
+      | inr later ↦
+          let rest = own_positive v own (omega arith) v_low own_low later in
+          omega (arith, ints, mul_nonneg x w (omega (arith, ints, x_low)) w_low, rest)
     ]
 
 own_zero : (v own : List ℤ) → All IsNotNegative own → ¬ Any IsAboveZero own → dot v own ≡ pos 0
@@ -195,9 +195,9 @@ module _ (levels : List ℕ) (answers : List Answer) (c : Combination) (v : List
   total_positive pair side proof strict =
       let met = all_met pair side proof in
       elim strict [
-        inl own ↦
-          omega (arith, ints, total_at_least levels answers v c.increments c.answers met, own_positive v c.increments (vector.len ∙ sym proof.len) vector.positive proof.own own)
-      | inr cited ↦ omega (arith, ints, total_more levels answers v c.increments c.answers met cited, own_nonneg v c.increments vector.positive proof.own)
+        | inl own ↦
+            omega (arith, ints, total_at_least levels answers v c.increments c.answers met, own_positive v c.increments (vector.len ∙ sym proof.len) vector.positive proof.own own)
+        | inr cited ↦ omega (arith, ints, total_more levels answers v c.increments c.answers met cited, own_nonneg v c.increments vector.positive proof.own)
       ]
 
   total_zero : (pair : Pair) (side : Side) → Proves levels answers c pair side → ¬ HasStrict answers c → dot v (total levels answers c.increments c.answers) ≡ pos 0

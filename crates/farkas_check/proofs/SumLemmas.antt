@@ -1,7 +1,7 @@
 -- Adding a multiple of a row, one place after another, and how large the sums grow.
-use Rattle.std.proofs.Common.{◌≡◌, ℕ, zero, suc, ◌+◌, ◌-◌, ◌*◌, ◌^◌, ◌<◌, ◌≤◌, List, [], ◌∷◌, length, take, get_or, set, All, ℤ, pos, ◌+ℤ◌, ◌*ℤ◌, unsigned_abs, Option, Some, None, IfSome, slice_get, inl, inr, fold, subst, refl, ap, sym, ◌∙◌, rules, arith}
+use Rattle.std.proofs.Common.{◌≡◌, ℕ, zero, suc, ◌+◌, ◌-◌, ◌*◌, ◌^◌, ◌<◌, ◌≤◌, List, [], ◌∷◌, length, take, get_or, set, All, ℤ, pos, ◌+ℤ◌, ◌*ℤ◌, unsigned_abs, Option, Some, None, IfSome, slice_get, inl, inr, subst, refl, ap, sym, ◌∙◌, arith}
 use Rattle.std.specs.Option.{option_map_or}
-use Rattle.std.proofs.lemmas.Int.{ints, unsigned_abs-mul}
+use Rattle.std.proofs.lemmas.Int.{unsigned_abs-mul}
 use Rattle.std.proofs.Math.Nat.{mul-le-mul}
 use Rattle.std.proofs.lemmas.List.Elements.{All-cons, All-head, All-tail, All-nil, All-weaker}
 use Rattle.std.proofs.lemmas.List.Sums.{fold_more}
@@ -46,7 +46,7 @@ plus-times_small (x ∷ a) w (y ∷ row) b n small weight unit len =
     let x_small = All-head (λ x. unsigned_abs x ≤ b) x a small in
     let y_small = All-head (λ x. unsigned_abs x ≤ 1) y row unit in
     let here : unsigned_abs (x +ℤ (w *ℤ y)) ≤ b + n =
-        omega (arith, unsigned_abs-add x (w *ℤ y), unsigned_abs-mul w y, mul-le-mul weight y_small, x_small) in
+    omega (arith, unsigned_abs-add x (w *ℤ y), unsigned_abs-mul w y, mul-le-mul weight y_small, x_small) in
     All-cons (λ x. unsigned_abs x ≤ b + n) (x +ℤ (w *ℤ y)) (plus a (times w row)) here
     (plus-times_small a w row b n (All-tail (λ x. unsigned_abs x ≤ b) x a small) weight (All-tail (λ x. unsigned_abs x ≤ 1) y row unit) (omega arith))
 
@@ -87,9 +87,9 @@ pub AreTotals-more : (levels : List ℕ) (answers : List Answer) (own : List ℤ
     → AreTotals levels answers own cites (i + 1) (plus sums (times (get_or cites i d).weight (cited_gain levels answers (get_or cites i d))))
 AreTotals-more levels answers own cites i sums d totals within weight unit len = record {
   sum =
-    ap (λ s. plus s (times (get_or cites i d).weight (cited_gain levels answers (get_or cites i d)))) totals.sum
-    ∙ sym (fold_more (λ s cite. plus s (times cite.weight (cited_gain levels answers cite))) own cites i d within);
+      ap (λ s. plus s (times (get_or cites i d).weight (cited_gain levels answers (get_or cites i d)))) totals.sum
+      ∙ sym (fold_more (λ s cite. plus s (times cite.weight (cited_gain levels answers cite))) own cites i d within);
   small = λ k e in_sums.
-    omega
-    (arith, plus-times_small sums (get_or cites i d).weight (cited_gain levels answers (get_or cites i d)) (2 ^ 96 * (i + 1)) (2 ^ 96) totals.small (omega (arith, weight)) unit len k e in_sums);
+      omega
+      (arith, plus-times_small sums (get_or cites i d).weight (cited_gain levels answers (get_or cites i d)) (2 ^ 96 * (i + 1)) (2 ^ 96) totals.small (omega (arith, weight)) unit len k e in_sums);
 }

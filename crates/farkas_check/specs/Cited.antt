@@ -1,5 +1,5 @@
 -- Lists of cites.
-use Rattle.std.specs.Prelude.{◌≢◌, ℕ, ◌^◌, ◌<◌, ◌≤◌, List, length, map, All, ℤ, pos, unsigned_abs}
+use Rattle.std.specs.Prelude.{◌≢◌, ◌^◌, ◌<◌, ◌≤◌, List, length, map, All, pos, unsigned_abs}
 use Rattle.std.specs.List.Sorted.{IsStrictlyIncreasing}
 use Rattle.farkas_check.specs.declared.cites.Cite.{Cite}
 

@@ -34,8 +34,8 @@ impl Model for Cites {
     ghost inverse = { λ cites. record { items = padded no_cite cites; len = length cites } };
 
     ghost inverse_ok = { λ t h i. record {
-        items = padded-take no_cite t.len t.items h.0 i;
-        len = length-padded no_cite t.len t.items h.0 i;
+      items = padded-take no_cite t.len t.items h.0 i;
+      len = length-padded no_cite t.len t.items h.0 i;
     } };
 }
 
@@ -108,3 +108,6 @@ fn is_ascending(items: &[Cite]) -> bool
 {
     items.is_sorted_by(|cite, next| cite.answer < next.answer)
 }
+
+#[cfg(test)]
+mod tests;

@@ -13,7 +13,13 @@ use criteria_model::{Model, Pair, Side};
 
 /// The first part that the combination lacks to prove the verdict on the pair, each part tested over the whole
 /// combination; `None` where it proves the verdict.
-pub fn flaw(model: &Model, answers: &Answers, combination: &Combination, pair: &Pair, verdict: Side) -> Option<Flaw>
+pub fn flaw(
+    model: &Model,
+    answers: &Answers,
+    combination: &Combination,
+    pair: &Pair,
+    verdict: Side,
+) -> Option<Flaw>
     requires len { length combination.now.increments ≡ increments model.now.levels }
     requires scale { unsigned_abs combination.now.scale < 2 ^ 96 }
     requires answers_fit { All (λ answer. IsFit model.now.levels answer.pair) answers.now.answers }
@@ -44,7 +50,13 @@ pub fn flaw(model: &Model, answers: &Answers, combination: &Combination, pair: &
 
 /// Whether the combination proves the verdict on the pair. Then every value vector that meets the answers ranks the
 /// pair so: see [`proved_is_ranked`](crate::laws::proved_is_ranked).
-pub fn proves(model: &Model, answers: &Answers, combination: &Combination, pair: &Pair, verdict: Side) -> bool
+pub fn proves(
+    model: &Model,
+    answers: &Answers,
+    combination: &Combination,
+    pair: &Pair,
+    verdict: Side,
+) -> bool
     requires len { length combination.now.increments ≡ increments model.now.levels }
     requires scale { unsigned_abs combination.now.scale < 2 ^ 96 }
     requires answers_fit { All (λ answer. IsFit model.now.levels answer.pair) answers.now.answers }
@@ -56,3 +68,6 @@ pub fn proves(model: &Model, answers: &Answers, combination: &Combination, pair:
         Some(_) => false,
     }
 }
+
+#[cfg(test)]
+mod tests;

@@ -13,7 +13,13 @@ use answer_rows::Answers;
 use criteria_model::{Model, Pair, Side};
 
 /// Whether scale times the verdict's gain is the total, at each increment.
-pub fn has_sums(model: &Model, answers: &Answers, combination: &Combination, pair: &Pair, verdict: Side) -> bool
+pub fn has_sums(
+    model: &Model,
+    answers: &Answers,
+    combination: &Combination,
+    pair: &Pair,
+    verdict: Side,
+) -> bool
     requires len { length combination.now.increments ≡ increments model.now.levels }
     requires scale { unsigned_abs combination.now.scale < 2 ^ 96 }
     requires answers_fit { All (λ answer. IsFit model.now.levels answer.pair) answers.now.answers }

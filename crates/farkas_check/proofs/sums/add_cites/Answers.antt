@@ -1,4 +1,4 @@
-use Rattle.std.proofs.Common.{◌≡◌, ◌≤◌, length, get_or, All, ℤ, unsigned_abs, to_z, of_z, ap, subst, sym, ◌∙◌, arith}
+use Rattle.std.proofs.Common.{◌≡◌, ◌≤◌, length, get_or, All, ℤ, unsigned_abs, to_z, of_z, ap, ◌∙◌, arith}
 use Rattle.std.specs.Int.{w128}
 use Rattle.std.proofs.lemmas.Int.{to_z-of_z, fits_signed_from_abs}
 use Rattle.criteria_model.specs.Rows.{plus, times}
@@ -35,11 +35,11 @@ pub loop-cite-preserved : goal.loop-cite-preserved
 loop-cite-preserved c =
     let now = (goal.at.loop-cite-preserved c).After-as_slice in
     let weight_is : to_z w128 (of_z w128 (cite now).weight) ≡ (cite now).weight =
-        to_z-of_z w128 (cite now).weight (fits_signed_from_abs w128 (cite now).weight (omega (arith, (is_cite now).within))) in
+    to_z-of_z w128 (cite now).weight (fits_signed_from_abs w128 (cite now).weight (omega (arith, (is_cite now).within))) in
     let added : c.add.new.sums ≡ plus c.loop-cite.sums (times (cite now).weight (cited_gain c.args.model.now.levels c.args.answers.now.answers (cite now))) =
-        rw (weight_is, row_is now) at c.add.ensures in
+    rw (weight_is, row_is now) at c.add.ensures in
     let unit : All (λ (x : ℤ). unsigned_abs x ≤ 1) (cited_gain c.args.model.now.levels c.args.answers.now.answers (cite now)) =
-        rw (row_is now) at c.as_slice.ensures.range.within in
+    rw (row_is now) at c.as_slice.ensures.range.within in
     rw added
     (AreTotals-more c.args.model.now.levels c.args.answers.now.answers c.args.sums.now c.args.cites.now c.loop-cite.cite-index c.loop-cite.sums no_cite
     c.loop-cite.invariant c.loop-cite-test.true (is_cite now).within unit (omega (arith, ap length (row_is now), length-row now, c.requires.len, c.loop-cite.auto.sums)))

@@ -1,4 +1,4 @@
-use Rattle.std.proofs.Common.{◌≡◌, ℕ, ◌<◌, List, length, map, get_or, ℤ, pos, ◌*ℤ◌, refl, sym, ◌∙◌, arith}
+use Rattle.std.proofs.Common.{◌≡◌, ℕ, ◌<◌, List, length, get_or, ℤ, pos, ◌*ℤ◌, refl, ◌∙◌, arith}
 use Rattle.std.specs.Int.{w128}
 use Rattle.std.proofs.lemmas.List.{ext_get_or, get_or-map, length-map}
 use Rattle.std.proofs.lemmas.Int.{to_z-of_z}
@@ -9,8 +9,8 @@ multiple_by_place : (k : ℤ) (row sums : List ℤ) → length row ≡ length su
 multiple_by_place k row sums len each =
     ext_get_or (pos 0) (times k row) sums (length-map row (λ x. k *ℤ x) ∙ len)
     (λ i within.
-      let in_row : i < length row = omega (arith, length-map row (λ x. k *ℤ x)) in
-      get_or-map (λ x. k *ℤ x) row i (pos 0) (pos 0) in_row ∙ each i in_row)
+    let in_row : i < length row = omega (arith, length-map row (λ x. k *ℤ x)) in
+    get_or-map (λ x. k *ℤ x) row i (pos 0) (pos 0) in_row ∙ each i in_row)
 
 pub returns : goal.returns
 returns c =

@@ -1,6 +1,5 @@
 use Rattle.std.proofs.Common.{◌≡◌, ℕ, ◌+◌, ◌-◌, min, List, ◌++◌, length, take, drop, ap, sym, ◌∙◌, arith}
 use Rattle.std.proofs.Math.Seq.{take-add}
-use Rattle.std.proofs.Math.Nat.{min_comm}
 use Rattle.std.proofs.lemmas.List.{length-drop, take_min}
 use Rattle.criteria_model.specs.declared.pairs.Answer.{Answer}
 use Rattle.answer_rows.specs.Room.{BeginsWith}
@@ -19,7 +18,7 @@ returns-clause-answers c =
     let mine = c.args.self.now in
     let held : c.len-held.result ≡ length mine.answers = omega (arith, ap (λ list. length list.answers) c.self.view_is) in
     let count : c.len-held.result + c.min-copied.result - c.len-held.result ≡ min (length c.args.other.now.answers - length mine.answers) mine.spare =
-        omega (arith, held, c.min-copied.ensures, ap (λ list. length list.answers) c.other.view_is, ap (λ list. list.spare) c.self.view_is) in
+    omega (arith, held, c.min-copied.ensures, ap (λ list. length list.answers) c.other.view_is, ap (λ list. list.spare) c.self.view_is) in
     let mine_is : c.self.inside.items.items ≡ mine.answers = ap (λ list. list.answers) c.self.view_is in
     let others_is : c.as_slice-others.result.now ≡ c.args.other.now.answers = c.as_slice-others.ensures.value ∙ ap (λ list. list.answers) c.other.view_is in
     let whole = copied mine.answers c.args.other.now.answers mine.spare c.requires in
