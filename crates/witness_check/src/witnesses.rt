@@ -62,3 +62,6 @@ fn ranks(model: &Model, vector: &Vector, pair: &Pair, side: Side) -> bool
         Side::Equal => lead == 0,
     }
 }
+
+#[cfg(test)]
+mod tests;
