@@ -1,8 +1,8 @@
 -- Which of two lists of levels is higher somewhere, and what filling cancelled places changes.
-use Rattle.std.proofs.Common.{◌≡◌, ◌≢◌, ◌⊎◌, inl, inr, ℕ, zero, suc, ◌+◌, ◌≤◌, ◌<◌, max, List, [], ◌∷◌, length, map, get_or, refl, ap, sym, ◌∙◌, subst, arith}
+use Rattle.std.proofs.Common.{◌≡◌, ◌≢◌, ◌⊎◌, inl, inr, ℕ, zero, suc, ◌≤◌, ◌<◌, max, List, [], ◌∷◌, length, get_or, ap, sym, ◌∙◌, arith}
 use Rattle.std.proofs.lemmas.List.{get_or-map, length-map, ext_get_or}
 use Rattle.criteria_model.specs.declared.pairs.Pair.{Pair}
-use Rattle.criteria_model.specs.Alternatives.{filled, IsAtLeast, IsSomewhereHigher, IsDominated, IsUndominated}
+use Rattle.criteria_model.specs.Alternatives.{filled, IsAtLeast, IsSomewhereHigher}
 use Rattle.criteria_model.specs.Pairs.{FitsAt, IsFit}
 use Rattle.criteria_model.specs.Laws.{UndominatedIsNotDominated}
 

@@ -1,5 +1,5 @@
 -- Increments and the rows of alternatives.
-use Rattle.std.proofs.Common.{◌⊎◌, inl, inr, ◌≤ℤ◌, ◌≡◌, ℕ, zero, suc, ◌+◌, ◌-◌, ◌≤◌, ◌<◌, max, List, [], ◌∷◌, ◌++◌, length, map, take, drop, replicate, get_or, All, sum_by, ℤ, pos, ◌-ℤ◌, refl, ap, ap₂, sym, ◌∙◌, arith, length-append, append_assoc, append-nil, length-take, cond, nat_lt, unsigned_abs, true, false, ◌*◌}
+use Rattle.std.proofs.Common.{◌⊎◌, inl, inr, ◌≤ℤ◌, ◌≡◌, ℕ, zero, suc, ◌+◌, ◌-◌, ◌≤◌, ◌<◌, max, List, [], ◌∷◌, ◌++◌, length, map, take, replicate, get_or, All, ℤ, pos, ◌-ℤ◌, refl, ap, ap₂, sym, ◌∙◌, arith, length-append, append_assoc, append-nil, length-take, cond, nat_lt, unsigned_abs, true, false}
 use Rattle.std.specs.List.{range_with_len}
 use Rattle.std.proofs.lemmas.List.{take_more, take-replicate, replicate-append-replicate}
 use Rattle.std.proofs.lemmas.Int.{ints}

@@ -1,9 +1,9 @@
 -- Sums, differences, multiples and products of rows.
-use Rattle.std.proofs.Common.{◌≡◌, ℕ, suc, ◌+◌, ◌-◌, ◌≤◌, ◌<◌, max, List, [], ◌∷◌, ◌++◌, length, map, take, drop, replicate, All, ℤ, pos, ◌+ℤ◌, ◌-ℤ◌, ◌*ℤ◌, neg_ℤ, refl, ap, ap₂, sym, ◌∙◌, arith, get_or, length-take}
+use Rattle.std.proofs.Common.{◌≡◌, ℕ, suc, ◌+◌, ◌<◌, max, List, [], ◌∷◌, ◌++◌, length, map, take, replicate, ℤ, pos, ◌+ℤ◌, ◌-ℤ◌, ◌*ℤ◌, neg_ℤ, refl, ap, ap₂, sym, ◌∙◌, arith, get_or, length-take}
 use Rattle.std.proofs.lemmas.Int.{ints}
 use Rattle.std.proofs.lemmas.List.{take_more}
 use Rattle.criteria_model.specs.Rows.{dot, plus, minus, times}
-use Rattle.criteria_model.proofs.Integers.{mul-add, mul-neg, mul-sub, mul_left_comm, mul-zero, zero-mul}
+use Rattle.criteria_model.proofs.Integers.{mul-add, mul-neg, mul-sub, mul_left_comm, mul-zero}
 
 -- ---- the product is linear in its second row
 pub dot-nil : (v : List ℤ) → dot v [] ≡ pos 0

@@ -1,4 +1,4 @@
-use Rattle.std.proofs.Common.{◌≡◌, ◌+◌, ◌∙◌, ap, sym, length, take, arith, ◌++◌, ◌∷◌, [], SFits, to_z-of_z, w8, rules, ℕ}
+use Rattle.std.proofs.Common.{◌≡◌, ◌+◌, ◌∙◌, ap, sym, length, arith, ◌++◌, ◌∷◌, [], SFits, to_z-of_z, w8, rules, ℕ}
 use Rattle.std.proofs.lemmas.List.{take_more_set, take_all}
 use Rattle.criteria_model.specs.Rows.{minus}
 use Rattle.criteria_model.specs.Worth.{has_on}

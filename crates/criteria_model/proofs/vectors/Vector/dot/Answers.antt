@@ -1,4 +1,4 @@
-use Rattle.std.proofs.Common.{◌≡◌, ◌<◌, ◌≤◌, ◌^◌, ◌∙◌, ap, ap₂, sym, subst, length, take, get_or, arith, ℤ, pos, unsigned_abs, ◌+ℤ◌, ◌*ℤ◌, to_z}
+use Rattle.std.proofs.Common.{◌≡◌, ◌<◌, ◌≤◌, ◌^◌, ◌∙◌, ap, ap₂, sym, subst, length, get_or, arith, ℤ, pos, unsigned_abs, ◌+ℤ◌, ◌*ℤ◌, to_z}
 use mir.Syntax.{w8, w128}
 use Rattle.std.proofs.lemmas.Int.{fits_signed_from_abs, to_z-of_z}
 use Rattle.std.proofs.lemmas.List.{take_all}
