@@ -2,7 +2,7 @@
 ghost use Rattle.std.specs.Prelude.{◌≡◌, ℕ, List, Option, ◌+◌, ◌-◌, ◌<◌, ◌≤◌, [], ◌++◌, ◌∷◌, length, take, drop, slice_range, IfOk, OnOk, OnErr, Some, vec_len};
 ghost use Rattle.edges.specs.Faults.{HasRisen};
 ghost use Rattle.edges.specs.Line.{HasLineEnd, HasNoLineEnd};
-ghost use Rattle.edges.specs.Lines.{CountsFault, Gives, GivesLine, IsFirstLineEnd, IsLineEndWithin, KeepsLimits, ahead};
+ghost use Rattle.edges.specs.Lines.{CountsFault, Gives, GivesLine, IsFirstLineEnd, IsLineEndWithin, KeepsLimits, ahead, new_lines};
 ghost use Rattle.edges.specs.Told.{IsAtEnd, Takes};
 
 use crate::NoMemory;
@@ -51,15 +51,23 @@ impl Model for Lines {
 
     ghost Value = { LinesView };
 
-    ghost view = { λ s. record { kept = slice_range s.buffer.items s.kept_start s.kept_end; line = slice_range s.buffer.items s.line_start s.line_end; longest = s.longest; reserved = s.reserved } };
+    ghost view = { λ s. record {
+      kept = slice_range s.buffer.items s.kept_start s.kept_end;
+      line = slice_range s.buffer.items s.line_start s.line_end;
+      longest = s.longest;
+      reserved = s.reserved;
+    } };
 
-    ghost invariant = { λ s. (s.line_start ≤ s.line_end) × (s.line_end ≤ s.kept_start) × (s.kept_start ≤ s.kept_end) × (s.kept_end ≤ length s.buffer.items) × (s.longest ≤ s.reserved) × (s.reserved < length s.buffer.items) };
+    // The line stands before the bytes kept, and there is room for a byte more than the longest line.
+    ghost invariant = { λ s. (s.line_start ≤ s.line_end) × (s.line_end ≤ s.kept_start) × (s.kept_start ≤ s.kept_end)
+        × (s.kept_end ≤ length s.buffer.items)
+        × (s.longest ≤ s.reserved) × (s.reserved < length s.buffer.items) };
 }
 
 impl Lines {
     /// A reader of lines of at most `longest` bytes, line ends not counted.
     pub fn reserve(alloc: Global, longest: u32) -> Result<Lines, NoMemory>
-        ensures { IfOk result (λ lines. lines ≡ record { kept = []; line = []; longest = longest; reserved = longest }) }
+        ensures { IfOk result (λ lines. lines ≡ new_lines longest) }
     {
         let reserved = longest as usize;
         Ok(Lines {
@@ -83,7 +91,8 @@ impl Lines {
 
     /// Goes on to the next line of the bytes kept and then of `source`.
     pub fn next_line<S: Source>(&mut self, source: &mut S) -> LineGot
-        ensures got { Gives result self.new (ahead self.old (S.left source.old)) (ahead self.new (S.left source.new)) }
+        ensures got { Gives result self.new
+            (ahead self.old (S.left source.old)) (ahead self.new (S.left source.new)) }
         ensures limits { KeepsLimits self.old self.new }
         ensures faults { CountsFault result (S.faults source.old) (S.faults source.new) }
 
@@ -105,7 +114,8 @@ impl Lines {
     fn next_line_of<S: Source>(&mut self, source: &mut S) -> LineGot
         requires unbroken { HasNoLineEnd (take (self.old.longest + 1) self.old.kept) }
         requires no_line { self.old.line ≡ [] }
-        ensures got { Gives result self.new (ahead self.old (S.left source.old)) (ahead self.new (S.left source.new)) }
+        ensures got { Gives result self.new
+            (ahead self.old (S.left source.old)) (ahead self.new (S.left source.new)) }
         ensures limits { KeepsLimits self.old self.new }
         ensures faults { CountsFault result (S.faults source.old) (S.faults source.new) }
         ensures too_many_kept { self.old.longest < length self.old.kept → source.new ≡ source.old }
@@ -188,7 +198,8 @@ impl Lines {
     fn give_rest(&mut self) -> LineGot
         requires unbroken { HasNoLineEnd self.old.kept }
         requires fits { length self.old.kept ≤ self.old.longest }
-        ensures got { (left : Option (List ℕ)) → IsAtEnd left → Gives result self.new (ahead self.old left) (ahead self.new left) }
+        ensures got { (left : Option (List ℕ)) → IsAtEnd left
+            → Gives result self.new (ahead self.old left) (ahead self.new left) }
         ensures no_fault { (faults : ℕ) → CountsFault result faults faults }
         ensures limits { KeepsLimits self.old self.new }
     {
@@ -245,7 +256,8 @@ fn take_behind<S: Source>(buffer: &mut [u8], kept: usize, source: &mut S) -> Res
     requires { kept < length buffer.old }
     ensures within { IfOk result (λ n. kept + n ≤ length buffer.old) }
     ensures front { take kept buffer.new ≡ take kept buffer.old }
-    ensures taken { IfOk result (λ n. Takes (S.left source.old) (S.left source.new) (slice_range buffer.new kept (kept + n))) }
+    ensures taken { IfOk result (λ n.
+        Takes (S.left source.old) (S.left source.new) (slice_range buffer.new kept (kept + n))) }
     ensures ended { IfOk result (λ n. n ≡ 0 → IsAtEnd (S.left source.new)) }
     ensures quiet { OnOk result (S.faults source.new ≡ S.faults source.old) }
     ensures failed { OnErr result (HasRisen (S.faults source.old) (S.faults source.new)) }
