@@ -5,8 +5,7 @@ ghost use Rattle.criteria_model.specs.Pairs.{IsFit};
 ghost use Rattle.answer_rows.specs.Room.{room_of, BeginsWith};
 
 use criteria_model::{Answer, Model, Row};
-use edges::NoMemory;
-use std::alloc::Global;
+use std::alloc::{AllocError as NoMemory, Global};
 
 /// A list of answers, numbered from 1, that keeps memory for `spare` more. Its length and `spare` together stay
 /// below 2^32, and no call lessens their sum.

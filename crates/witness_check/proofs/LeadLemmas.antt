@@ -1,5 +1,5 @@
 -- The sign of a pair's lead, left minus right, says how values rank it.
-use Rattle.std.proofs.Common.{◌≡◌, ◌↔◌, ℕ, suc, ◌+◌, ◌-◌, ◌^◌, ◌<◌, Bool, true, false, IsTrue, eqb, List, ℤ, pos, negsuc, ◌+ℤ◌, ◌-ℤ◌, neg_ℤ, ◌<ℤ◌, FitsSigned, to_z, of_z, refl, ap, sym, ◌∙◌, arith}
+use Rattle.std.proofs.Common.{◌≡◌, ◌↔◌, suc, ◌-◌, ◌^◌, IsTrue, eqb, ℤ, pos, negsuc, ◌-ℤ◌, ◌<ℤ◌, FitsSigned, to_z, of_z, ap, arith}
 use Rattle.std.specs.Int.{w128}
 use lib.Signed.{lt_z}
 use Rattle.std.proofs.lemmas.Bool.{eqb-true, eq-eqb}

@@ -46,7 +46,9 @@ fn all_met(model: &Model, answers: &[Answer], vector: &Vector) -> bool
     requires fit { All (λ answer. IsFit model.now.levels answer.pair) answers.now }
     ensures { IsTrue result ↔ MeetsAll model.now.levels answers.now vector.now }
 {
-    answers.iter().all(|answer| ranks(model, vector, &answer.pair, answer.side))
+    answers
+        .iter()
+        .all(|answer| ranks(model, vector, &answer.pair, answer.side))
 }
 
 /// Whether the vector ranks the pair so.

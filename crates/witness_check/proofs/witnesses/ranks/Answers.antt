@@ -1,5 +1,4 @@
-use Rattle.std.proofs.Common.{◌≡◌, length, ℤ, ◌-ℤ◌, FitsSigned, ap, ◌∙◌, arith, rules}
-use Rattle.std.specs.Int.{w128}
+use Rattle.std.proofs.Common.{◌≡◌, length, ◌-ℤ◌, ap, ◌∙◌, arith}
 use Rattle.criteria_model.specs.declared.pairs.Side.TheVariants.{Left}
 use Rattle.criteria_model.specs.Rows.{dot}
 use Rattle.criteria_model.specs.Worth.{has, worth}
