@@ -1,6 +1,6 @@
 -- Line ends by their places, and the lines of a text.
-use Rattle.std.proofs.Common.{◌≡◌, ◌≢◌, ℕ, zero, suc, ◌+◌, ◌-◌, ◌<◌, ◌≤◌, ◌⊎◌, List, [], ◌∷◌, ◌++◌, length, take, drop, min, slice_range, slice_index, get_or, sym, ap, subst, ◌∙◌, arith, refl, true, false, inl, inr, eqb-true, eq-eqb}
-use Rattle.std.specs.Prelude.{Option, Some, None, All}
+use Rattle.std.proofs.Common.{◌≡◌, ◌≢◌, ℕ, ◌+◌, ◌-◌, ◌<◌, ◌≤◌, List, length, take, drop, min, slice_range, slice_index, sym, ap, ◌∙◌, arith, inl, inr, eqb-true, eq-eqb}
+use Rattle.std.specs.Prelude.{Some, None}
 use Rattle.std.proofs.lemmas.List.{get_or-take, get_or-drop, length-take, length-drop}
 use Rattle.std.proofs.lemmas.List.Elements.{All-from_get_or, All-get_or}
 use Rattle.std.proofs.lemmas.Bool.Decides.{leb_tells}
@@ -35,12 +35,12 @@ none_between : (text : List ℕ) (searched end stop : ℕ)
     → NoneBelow text (searched + stop)
 none_between text searched end stop none le nowhere i below within =
     elim (leb_tells searched i) [
-      inl p ↦ λ e.
-        let k : ℕ = i - searched in
-        let lt : k < end - searched = omega (arith, p.1) in
-        let place : searched + k ≡ i = omega (arith, p.1) in
-        nowhere k (omega arith) (omega (arith, p.1))
-        (eq-eqb _ _ (part-at text searched end k lt ∙ ap (slice_index text) place ∙ e))
+      | inl p ↦ λ e.
+          let k : ℕ = i - searched in
+          let lt : k < end - searched = omega (arith, p.1) in
+          let place : searched + k ≡ i = omega (arith, p.1) in
+          nowhere k (omega arith) (omega (arith, p.1))
+          (eq-eqb _ _ (part-at text searched end k lt ∙ ap (slice_index text) place ∙ e))
       | inr p ↦ NoneBelow-take text searched none i p.1 within
     ]
 
@@ -52,7 +52,7 @@ pub none_found : (text : List ℕ) (searched end longest : ℕ)
 none_found text searched end longest none le is nowhere =
     let stop : ℕ = length (slice_range text searched end) in
     let stops : searched + stop ≡ end =
-        omega (arith, length-take (end - searched) (drop searched text), length-drop searched text) in
+    omega (arith, length-take (end - searched) (drop searched text), length-drop searched text) in
     let below : NoneBelow text (searched + stop) = none_between text searched end stop none (omega arith) nowhere in
     HasNoLineEnd-take text (longest + 1) (λ i lt within. below i (omega arith) within)
 
@@ -63,7 +63,7 @@ pub found_first : (text : List ℕ) (searched end longest place : ℕ)
     → IsFirstLineEnd text longest (searched + place)
 found_first text searched end longest place none le is first =
     let stops : searched + length (slice_range text searched end) ≡ end =
-        omega (arith, length-take (end - searched) (drop searched text), length-drop searched text) in
+    omega (arith, length-take (end - searched) (drop searched text), length-drop searched text) in
     let high : place < length (slice_range text searched end) = first.0.high in
     let lt : place < end - searched = omega arith in
     record {

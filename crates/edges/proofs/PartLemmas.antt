@@ -1,6 +1,6 @@
 -- Parts of a buffer.
 use Rattle.std.proofs.Common.{◌≡◌, ℕ, ◌+◌, ◌-◌, ◌≤◌, List, ◌++◌, length, take, drop, slice_range, sym, ap, ◌∙◌, arith}
-use Rattle.std.proofs.lemmas.List.{drop-drop, drop-take, length-drop, length-take-le, take-append-drop, take-take, take_at, take_rest}
+use Rattle.std.proofs.lemmas.List.{drop-drop, drop-take, length-take-le, take-append-drop, take-take, take_at, take_rest}
 
 -- a part without its first n items
 pub slice_range-drop : (s : List ℕ) (a n e : ℕ) → a + n ≤ e → slice_range s (a + n) e ≡ drop n (slice_range s a e)

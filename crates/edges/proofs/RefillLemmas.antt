@@ -20,10 +20,10 @@ refilled old moved new start end n before now within is front taken =
     let more : List ℕ = take n (drop k new) in
     let fits : k ≤ length (drop start old) = omega (arith, length-drop start old) in
     let copied : take k (copy_within old start end 0) ≡ kept =
-        take_at kept (drop (0 + k) old) k (length-take-le k (drop start old) fits) in
+    take_at kept (drop (0 + k) old) k (length-take-le k (drop start old) fits) in
     let first : take k new ≡ kept = front ∙ ap (take k) is ∙ copied in
     let behind : slice_range new k (k + n) ≡ more =
-        let e : k + n - k ≡ n = omega arith in ap (λ m. take m (drop k new)) e in
+    let e : k + n - k ≡ n = omega arith in ap (λ m. take m (drop k new)) e in
     let whole : slice_range new 0 (k + n) ≡ kept ++ more =
-        let e : k + n - 0 ≡ k + n = omega arith in ap (λ m. take m new) e ∙ take-add new k n ∙ ap (λ x. x ++ more) first in
+    let e : k + n - 0 ≡ k + n = omega arith in ap (λ m. take m new) e ∙ take-add new k n ∙ ap (λ x. x ++ more) first in
     ap (λ x. prepend_known x now) whole ∙ prepend_known-append kept more now ∙ ap (prepend_known kept) (sym (taken ∙ ap (λ x. prepend_known x now) behind))

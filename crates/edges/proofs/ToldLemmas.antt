@@ -1,7 +1,7 @@
 -- Bytes that an end may tell.
-use Rattle.std.proofs.Common.{◌≡◌, ℕ, ◌+◌, ◌≤◌, List, [], ◌++◌, ◌-◌, length, take, drop, sym, ap, subst, ◌∙◌, refl, append_assoc}
+use Rattle.std.proofs.Common.{◌≡◌, ℕ, ◌+◌, List, [], ◌++◌, ◌-◌, length, take, drop, sym, ap, subst, ◌∙◌, refl, append_assoc}
 use Rattle.std.specs.Prelude.{Option, Some, None}
-use Rattle.std.specs.Io.KnownBytes.{prepend_known, append_known}
+use Rattle.std.specs.Io.KnownBytes.{prepend_known}
 use Rattle.std.proofs.lemmas.List.{append-nil, take_rest}
 use Rattle.edges.specs.Told.{Appends}
 use Rattle.edges.proofs.PartLemmas.{take-add}
@@ -39,5 +39,5 @@ Appends-more before mid now bytes done n first then' =
     let P : List ℕ → Type 0 = λ xs. Appends before now xs in
     let rest : List ℕ = take (length bytes - done) (drop done bytes) in
     let all : take (done + n) bytes ≡ take done bytes ++ take n rest =
-        take-add bytes done n ∙ ap (λ xs. take done bytes ++ take n xs) (sym (take_rest bytes done)) in
+    take-add bytes done n ∙ ap (λ xs. take done bytes ++ take n xs) (sym (take_rest bytes done)) in
     subst P (sym all) (Appends-append before mid now (take done bytes) (take n rest) first then')

@@ -1,5 +1,5 @@
 -- Bytes that an end of the program may tell: `Some` of them, or `None` where it says nothing.
-use Rattle.std.specs.Prelude.{◌≡◌, ℕ, List, [], ◌++◌, take, Option, Some, IfSome}
+use Rattle.std.specs.Prelude.{◌≡◌, ℕ, List, [], take, Option, Some, IfSome}
 use Rattle.std.specs.Io.KnownBytes.{prepend_known, append_known}
 
 -- the told bytes before are bs and then those told now: bs was taken from the front

@@ -8,7 +8,6 @@
 mod ends;
 mod line_reader;
 mod memory_ends;
-mod no_memory;
 mod quiet_ends;
 mod standard_ends;
 mod text_buffer;
@@ -16,7 +15,10 @@ mod text_buffer;
 pub use ends::{Failed, Sink, Source};
 pub use line_reader::{LineGot, Lines};
 pub use memory_ends::{MemSink, MemSource};
-pub use no_memory::NoMemory;
 pub use quiet_ends::{QuietSink, QuietSource};
 pub use standard_ends::{StdSink, StdSource};
+pub use std::alloc::AllocError as NoMemory;
 pub use text_buffer::Text;
+
+#[cfg(test)]
+mod tests;

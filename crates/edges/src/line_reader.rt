@@ -5,8 +5,8 @@ ghost use Rattle.edges.specs.Line.{HasNoLineEnd};
 ghost use Rattle.edges.specs.Lines.{CountsFault, Gives, IsLineEndWithin, KeepsLimits, ahead};
 ghost use Rattle.edges.specs.Told.{IsAtEnd, Takes};
 
+use crate::NoMemory;
 use crate::ends::{Failed, Source};
-use crate::no_memory::NoMemory;
 use memchr::memchr;
 use std::alloc::Global;
 use std::marker::Model;
@@ -164,7 +164,11 @@ impl Lines {
     {
         let rest = self.kept_len();
         self.show(rest, 0);
-        if rest == 0 { LineGot::End } else { LineGot::Piece }
+        if rest == 0 {
+            LineGot::End
+        } else {
+            LineGot::Piece
+        }
     }
 
     /// Shows the first `count` bytes that are kept as the line, and lets go of them and of the
@@ -189,7 +193,11 @@ fn line_end_within(kept: &[u8], searched: usize, longest: usize) -> Option<usize
     requires fits { searched ≤ longest }
     ensures { IsLineEndWithin kept.now longest result }
 {
-    let end = if kept.len() > longest { longest + 1 } else { kept.len() };
+    let end = if kept.len() > longest {
+        longest + 1
+    } else {
+        kept.len()
+    };
     let found = memchr(LINE_END, &kept[searched..end])?;
     Some(searched + found)
 }

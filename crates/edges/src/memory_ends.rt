@@ -3,8 +3,8 @@ ghost use Rattle.std.specs.Prelude.{◌≡◌, ◌↔◌, ◌+◌, ◌-◌, ◌^
 ghost use Rattle.edges.specs.Faults.{HasRisen};
 ghost use Rattle.edges.specs.Told.{Appends, IsAtEnd, Takes};
 
+use crate::NoMemory;
 use crate::ends::{Failed, Sink, Source};
-use crate::no_memory::NoMemory;
 use std::alloc::Global;
 use std::marker::Model;
 
@@ -33,7 +33,12 @@ impl Model for MemSource {
 impl MemSource {
     /// Gives `bytes`, at most `piece` of them per call. The calls whose numbers, from 1, stand in
     /// `fails` fail.
-    pub fn new(alloc: Global, bytes: &[u8], piece: usize, fails: &[u32]) -> Result<MemSource, NoMemory>
+    pub fn new(
+        alloc: Global,
+        bytes: &[u8],
+        piece: usize,
+        fails: &[u32],
+    ) -> Result<MemSource, NoMemory>
         requires { 1 ≤ piece }
         ensures { IfOk result (λ source. source ≡ record { left = bytes.now; piece = piece; fails = fails.now; calls = 0; faults = 0 }) }
     {

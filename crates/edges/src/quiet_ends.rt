@@ -4,8 +4,8 @@ ghost use Rattle.edges.specs.Ends.{told_bytes};
 ghost use Rattle.edges.specs.Faults.{HasRisen, no_faults};
 ghost use Rattle.edges.specs.Told.{Appends, IsAtEnd, Takes};
 
+use crate::NoMemory;
 use crate::ends::{Failed, Sink, Source};
-use crate::no_memory::NoMemory;
 use std::alloc::Global;
 use std::marker::Model;
 

@@ -3,8 +3,8 @@ ghost use Rattle.std.specs.Prelude.{◌≡◌, ◌+◌, ◌<◌, ◌≤◌, [], 
 ghost use Rattle.edges.specs.Faults.{HasRisen};
 ghost use Rattle.edges.specs.Told.{Appends, AppendsPrefix};
 
+use crate::NoMemory;
 use crate::ends::{Failed, Sink};
-use crate::no_memory::NoMemory;
 use std::alloc::Global;
 use std::marker::Model;
 

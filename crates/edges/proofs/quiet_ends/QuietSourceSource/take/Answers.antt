@@ -1,4 +1,4 @@
-use Rattle.std.proofs.Common.{◌≡◌, ap, sym, arith, ◌∙◌, drop}
+use Rattle.std.proofs.Common.{ap, sym, arith, ◌∙◌, drop}
 use Rattle.std.specs.Prelude.{Some}
 use Rattle.edges.proofs.PartLemmas.{given_and_rest}
 use Rattle.edges.proofs.quiet_ends.QuietSourceSource.take.Goals as goal
