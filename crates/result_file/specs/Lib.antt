@@ -1,0 +1,5 @@
+pub mod Texts
+pub mod Checked
+pub mod Reading
+pub mod Places
+pub mod Verdicts
