@@ -3,3 +3,4 @@ pub mod Checked
 pub mod Reading
 pub mod Places
 pub mod Verdicts
+pub mod Words

@@ -55,3 +55,34 @@ pub enum Part {
     /// No strict answer or increment has weight, or the verdict is another.
     Strict,
 }
+
+impl Part {
+    ghost use Rattle.std.specs.Prelude.{◌≡◌};
+    ghost use Rattle.result_file.specs.Words.{part_text};
+
+    /// The word that stands for the part.
+    pub fn text(self) -> &'static [u8]
+        ensures { result.now ≡ part_text self }
+    {
+        match self {
+            Part::Form => b"form",
+            Part::Model => b"model",
+            Part::Limit => b"limit",
+            Part::Class => b"class",
+            Part::Ranked => b"ranked",
+            Part::Asked => b"asked",
+            Part::Full => b"full",
+            Part::Earlier => b"earlier",
+            Part::Vectors => b"vectors",
+            Part::Question => b"question",
+            Part::Point => b"point",
+            Part::Unranked => b"unranked",
+            Part::Scale => b"scale",
+            Part::Increment => b"increment",
+            Part::Cite => b"cite",
+            Part::Weight => b"weight",
+            Part::Sum => b"sum",
+            Part::Strict => b"strict",
+        }
+    }
+}
