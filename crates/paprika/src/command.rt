@@ -15,14 +15,24 @@ const ROOM: u32 = 64;
 
 /// The statuses that a command ends with.
 const DONE: u8 = 0;
+
 const REFUSED: u8 = 1;
+
 const USAGE_STATUS: u8 = 2;
+
 const READ_FAULT: u8 = 3;
+
 const WRITE_FAULT: u8 = 4;
+
 const NO_MEMORY: u8 = 5;
 
 /// Does what the words say, and returns the status.
-pub fn plain_command<S: Source, K: Sink>(alloc: Global, words: &[String], source: &mut S, sink: &mut K) -> u8
+pub fn plain_command<S: Source, K: Sink>(
+    alloc: Global,
+    words: &[String],
+    source: &mut S,
+    sink: &mut K,
+) -> u8
     ensures check { IsCheck words.now → ChecksFile
         (record { left = S.left source.old; faults = S.faults source.old })
         (record { left = S.left source.new; faults = S.faults source.new })

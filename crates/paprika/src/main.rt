@@ -17,12 +17,7 @@ fn main(rt: HostRuntime) -> ExitCode {
     };
     let mut source = StdSource::new(rt.stdin());
     let mut sink = StdSink::new(rt.stdout());
-    ExitCode::from(plain_command(
-        rt.alloc(),
-        words.as_slice(),
-        &mut source,
-        &mut sink,
-    ))
+    ExitCode::from(plain_command(rt.alloc(), words.as_slice(), &mut source, &mut sink))
 }
 
 /// The words after the program's name.
@@ -30,3 +25,6 @@ fn words_of(rt: &HostRuntime) -> io::Result<Vec<String>> {
     let words = env::args(rt)?.skip(1).collect(rt.alloc())?;
     Ok(words)
 }
+
+#[cfg(test)]
+mod tests;

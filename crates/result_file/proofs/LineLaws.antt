@@ -65,15 +65,15 @@ tuple_field : (criteria : ℕ) → 1 ≤ criteria → criteria ≤ 24 → IsFiel
 unfolding tuple_at EndsSide
 tuple_field criteria low high = record {
   takes = λ text levels rest e.
-    let b = bind_some (list_at (number_at 25) 24 text) (λ found. cond (length found.0 == criteria) (Some found) None) (levels, rest) e in
-    let c = cond_some (length b.0.0 == criteria) b.0 (levels, rest) b.2 in
-    let t = (list_numbers 25 24 (lit< tt)).takes text b.0.0 b.0.1 b.1 in
-    let len : length b.0.0 ≡ criteria = grind (arith, nat_tests) in
-    subst (λ (found : List ℕ × List ℕ). (text ≡ listed decimal found.0 ++ found.1) × IsSide criteria found.0) c.1 (t.0, record { len = len; each = t.1.each });
+      let b = bind_some (list_at (number_at 25) 24 text) (λ found. cond (length found.0 == criteria) (Some found) None) (levels, rest) e in
+      let c = cond_some (length b.0.0 == criteria) b.0 (levels, rest) b.2 in
+      let t = (list_numbers 25 24 (lit< tt)).takes text b.0.0 b.0.1 b.1 in
+      let len : length b.0.0 ≡ criteria = grind (arith, nat_tests) in
+      subst (λ (found : List ℕ × List ℕ). (text ≡ listed decimal found.0 ++ found.1) × IsSide criteria found.0) c.1 (t.0, record { len = len; each = t.1.each });
   again = λ levels rest h ends.
-    let again = (list_numbers 25 24 (lit< tt)).again levels rest (record { some = omega (arith, h.len); most = omega (arith, h.len); each = h.each }) ends in
-    let same : (length levels == criteria) ≡ true = let len = h.len in grind (arith, nat_tests) in
-    rw (again, same) refl;
+      let again = (list_numbers 25 24 (lit< tt)).again levels rest (record { some = omega (arith, h.len); most = omega (arith, h.len); each = h.each }) ends in
+      let same : (length levels == criteria) ≡ true = let len = h.len in grind (arith, nat_tests) in
+      rw (again, same) refl;
 }
 
 -- ---- a pair
@@ -86,20 +86,20 @@ pair_field : (criteria : ℕ) → 1 ≤ criteria → criteria ≤ 24 → IsField
 unfolding pair_at EndsSide
 pair_field criteria low high = record {
   takes = λ text pair rest e.
-    let side = tuple_field criteria low high in
-    let b = bind_some (tuple_at criteria text) _ (pair, rest) e in
-    let w = bind_some (word_at (codes "/") b.0.1) _ (pair, rest) b.2 in
-    let r = bind_some (tuple_at criteria w.0.1) _ (pair, rest) w.2 in
-    let left = side.takes text b.0.0 b.0.1 b.1 in
-    let slash = (word_field (codes "/")).takes b.0.1 w.0.0 w.0.1 w.1 in
-    let right = side.takes w.0.1 r.0.0 r.0.1 r.1 in
-    subst (λ (found : Pair × List ℕ). (text ≡ pair_text found.0 ++ found.1) × IsPair criteria found.0) (some_is _ _ r.2)
+      let side = tuple_field criteria low high in
+      let b = bind_some (tuple_at criteria text) _ (pair, rest) e in
+      let w = bind_some (word_at (codes "/") b.0.1) _ (pair, rest) b.2 in
+      let r = bind_some (tuple_at criteria w.0.1) _ (pair, rest) w.2 in
+      let left = side.takes text b.0.0 b.0.1 b.1 in
+      let slash = (word_field (codes "/")).takes b.0.1 w.0.0 w.0.1 w.1 in
+      let right = side.takes w.0.1 r.0.0 r.0.1 r.1 in
+      subst (λ (found : Pair × List ℕ). (text ≡ pair_text found.0 ++ found.1) × IsPair criteria found.0) (some_is _ _ r.2)
       (joined3 text (listed decimal b.0.0) (codes "/") (listed decimal r.0.0) b.0.1 w.0.1 r.0.1 left.0 slash.0 right.0, record { left = left.1; right = right.1 });
   again = λ pair rest h ends.
-    let side = tuple_field criteria low high in
-    let first = side.again pair.left (codes "/" ++ (listed decimal pair.right ++ rest)) h.left (refl, refl) in
-    let second = side.again pair.right rest h.right ends in
-    ap (pair_at criteria) (sym (regroup3 (listed decimal pair.left) (codes "/") (listed decimal pair.right) rest)) ∙ rw (first, second) refl;
+      let side = tuple_field criteria low high in
+      let first = side.again pair.left (codes "/" ++ (listed decimal pair.right ++ rest)) h.left (refl, refl) in
+      let second = side.again pair.right rest h.right ends in
+      ap (pair_at criteria) (sym (regroup3 (listed decimal pair.left) (codes "/") (listed decimal pair.right) rest)) ∙ rw (first, second) refl;
 }
 
 -- ---- a side
@@ -127,14 +127,14 @@ side_field : IsField side_at side_text (λ _. Unit {0}) (λ _. Unit {0})
 unfolding side_at IsSideAt
 side_field = record {
   takes = λ text side rest e.
-    let found : IsSideAt text (side, rest) = elim (or_else_some (side_behind Left (codes "left") text) _ (side, rest) e) [
-      | inl left ↦ side_is Left text (side, rest) left
-      | inr other ↦ elim (or_else_some (side_behind Right (codes "right") text) (side_behind Equal (codes "equal") text) (side, rest) other) [
-        | inl right ↦ side_is Right text (side, rest) right
-        | inr equal ↦ side_is Equal text (side, rest) equal
+      let found : IsSideAt text (side, rest) = elim (or_else_some (side_behind Left (codes "left") text) _ (side, rest) e) [
+        | inl left ↦ side_is Left text (side, rest) left
+        | inr other ↦ elim (or_else_some (side_behind Right (codes "right") text) (side_behind Equal (codes "equal") text) (side, rest) other) [
+          | inl right ↦ side_is Right text (side, rest) right
+          | inr equal ↦ side_is Equal text (side, rest) equal
         ]
       ] in
-    (found, tt);
+      (found, tt);
   again = λ side rest h ends. side_again side rest;
 }
   where
@@ -185,7 +185,7 @@ model_takes line levels degree e =
     let whole = joined4 line (codes "model ") (listed decimal l.0.0) (codes " degree ") (decimal d.0.0) w.0.1 l.0.1 b.0.1 d.0.1 word.0 list.0 blank.0 number.0 in
     let whole' : line ≡ model_line (record { levels = l.0.0; degree = d.0.0 }) = whole ∙ rw end.0 (append-nil _) in
     subst (λ (found : List ℕ × ℕ). (line ≡ model_line (record { levels = found.0; degree = found.1 })) × HasModelForm (record { levels = found.0; degree = found.1 })) end.1
-      (whole', record { some = list.1.some; levels = list.1.each; degree = number.1 })
+    (whole', record { some = list.1.some; levels = list.1.each; degree = number.1 })
 
 -- a list of numbers takes two bytes for each number but one
 others_len : (xs : List ℕ) → All (λ n. n ≤ 999) xs → 2 * length xs ≤ length (flat_map (λ y. 0x2C ∷ decimal y) xs)

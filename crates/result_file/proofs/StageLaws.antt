@@ -90,11 +90,13 @@ no_claims criteria m = record { model = m; each = λ before claim after e. absur
 -- ---- one more line
 
 pub no_claim : (line : List ℕ) (kept : Claims) → answer_at kept.criteria line ≡ None → (criteria : Criteria) (claims : List Claim) → line ≢ end_line → Keeps kept criteria claims → Fails (Begun criteria claims) line Form
-no_claim line kept none criteria claims no_end h =
-    (no_end, λ claim form spelled.
+no_claim line kept none criteria claims no_end h = (
+  no_end,
+  λ claim form spelled.
       let e : answer_at (length criteria.levels) line ≡ Some claim = rw spelled (claim_again criteria claim h.is_model form) in
       let n : answer_at (length criteria.levels) line ≡ None = rw h.width at none in
-      absurd cc)
+      absurd cc,
+)
 
 fails_claim : (part : Part) (criteria : Criteria) (claims : List Claim) (line : List ℕ) (claim : Claim) → HasForm criteria claim → line ≡ claim_line claim → FailsAs criteria claims claim part → Fails (Begun criteria claims) line part
 fails_claim Form criteria claims line claim form spelled h = absurd h

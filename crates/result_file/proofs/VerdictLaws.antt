@@ -38,30 +38,30 @@ one_line line h = All-cons HasNoLineEnd line [] h (All-nil HasNoLineEnd)
 pub line_checked : (text before now : Option (List ℕ)) (number : ℕ) (place : Place) (new : LinesView) (part : Part) → HasCome text before number place → GivesLine new before now → length new.line ≤ 4096 → ((stage : Stage) → StandsFor place stage → Fails stage new.line part) → IsToldChecked text (Invalid number part)
 line_checked text before now number place new part h g short fails =
     for_told text (λ bytes. IsChecked bytes (Invalid number part)) (λ bytes is.
-      let t = told_now text before (unlines h.lines) bytes h.told is in
-      let u = told_now before now (new.line ++ line_end ∷ []) t.0 g.told t.1 in
-      record {
-        lines = h.lines;
-        rest = t.0;
-        stage = h.stage;
-        split = record { whole = t.2; unbroken = h.unbroken };
-        says = h.says;
-        number = h.number;
-        next = inr (inr (record {
-          line = new.line;
-          after = u.0;
-          split = record { whole = u.2; unbroken = one_line new.line g.unbroken };
-          fits = short;
-          fails = fails h.stage h.stands;
-        }));
-      })
+    let t = told_now text before (unlines h.lines) bytes h.told is in
+    let u = told_now before now (new.line ++ line_end ∷ []) t.0 g.told t.1 in
+    record {
+      lines = h.lines;
+      rest = t.0;
+      stage = h.stage;
+      split = record { whole = t.2; unbroken = h.unbroken };
+      says = h.says;
+      number = h.number;
+      next = inr (inr (record {
+        line = new.line;
+        after = u.0;
+        split = record { whole = u.2; unbroken = one_line new.line g.unbroken };
+        fits = short;
+        fails = fails h.stage h.stands;
+      }));
+    })
 
 -- a whole line that is right
 pub line_come : (text before now : Option (List ℕ)) (number : ℕ) (place next : Place) (new : LinesView) → HasCome text before number place → GivesLine new before now → ((lines : List (List ℕ)) (stage : Stage) → Says lines stage → StandsFor place stage → GoesOn lines new.line next) → HasCome text now (number + 1) next
 line_come text before now number place next new h g goes =
     let go = goes h.lines h.stage h.says h.stands in
     let whole : unlines (h.lines ++ new.line ∷ []) ≡ unlines h.lines ++ (new.line ++ line_end ∷ []) =
-        sym (append-nil (unlines (h.lines ++ new.line ∷ []))) ∙ unlines-push h.lines new.line [] in
+    sym (append-nil (unlines (h.lines ++ new.line ∷ []))) ∙ unlines-push h.lines new.line [] in
     let told : text ≡ prepend_known (unlines h.lines) (prepend_known (new.line ++ line_end ∷ []) now) = h.told ∙ ap (prepend_known (unlines h.lines)) g.told in
     record {
       lines = h.lines ++ new.line ∷ [];
@@ -80,22 +80,22 @@ ends_valid bytes piece lines Headed number whole says h = elim h [ inl begun ↦
 ends_valid bytes piece lines (Begun criteria claims) number whole says h =
     elim h [
       | inl begun ↦ record {
-          criteria = criteria;
-          claims = claims;
-          right = says.0;
-          lines = inl (whole ∙ ap (λ (ls : List (List ℕ)). unlines ls ++ piece) says.1 ∙ ap (λ (p : List ℕ). unlines (heading ∷ model_line criteria ∷ map claim_line claims) ++ p) begun.1);
-        }
+        criteria = criteria;
+        claims = claims;
+        right = says.0;
+        lines = inl (whole ∙ ap (λ (ls : List (List ℕ)). unlines ls ++ piece) says.1 ∙ ap (λ (p : List ℕ). unlines (heading ∷ model_line criteria ∷ map claim_line claims) ++ p) begun.1);
+      }
       | inr ended ↦ absurd ended.0
     ]
 ends_valid bytes piece lines (Ended criteria claims) number whole says h =
     elim h [
       | inl begun ↦ absurd begun.0
       | inr ended ↦ record {
-          criteria = criteria;
-          claims = claims;
-          right = says.0;
-          lines = inr (whole ∙ ap (λ (p : List ℕ). unlines lines ++ p) ended.1 ∙ append-nil (unlines lines) ∙ ap unlines says.1);
-        }
+        criteria = criteria;
+        claims = claims;
+        right = says.0;
+        lines = inr (whole ∙ ap (λ (p : List ℕ). unlines lines ++ p) ended.1 ∙ append-nil (unlines lines) ∙ ap unlines says.1);
+      }
     ]
 
 ends_checked : (verdict : Checked) (bytes piece : List ℕ) (lines : List (List ℕ)) (stage : Stage) (number : ℕ) → bytes ≡ unlines lines ++ piece → All HasNoLineEnd lines → HasNoLineEnd piece → length piece ≤ 4096 → Says lines stage → number ≡ length lines + 1 → EndsAs stage piece number verdict → IsChecked bytes verdict
@@ -126,11 +126,11 @@ ends_checked NoMemory bytes piece lines stage number whole unbroken one short sa
 piece_checked : (text before now : Option (List ℕ)) (number : ℕ) (place : Place) (piece : List ℕ) (verdict : Checked) → HasCome text before number place → before ≡ prepend_known piece now → IsAtEnd now → HasNoLineEnd piece → length piece ≤ 4096 → ((stage : Stage) → StandsFor place stage → EndsAs stage piece number verdict) → IsToldChecked text verdict
 piece_checked text before now number place piece verdict h told ended one short ends =
     for_told text (λ bytes. IsChecked bytes verdict) (λ bytes is.
-      let t = told_now text before (unlines h.lines) bytes h.told is in
-      let u = told_now before now piece t.0 told t.1 in
-      let none : u.0 ≡ [] = subst (λ (left : Option (List ℕ)). IsAtEnd left) u.1 ended in
-      let rest : t.0 ≡ piece = u.2 ∙ ap (λ (p : List ℕ). piece ++ p) none ∙ append-nil piece in
-      ends_checked verdict bytes piece h.lines h.stage number (t.2 ∙ ap (λ (p : List ℕ). unlines h.lines ++ p) rest) h.unbroken one short h.says h.number (ends h.stage h.stands))
+    let t = told_now text before (unlines h.lines) bytes h.told is in
+    let u = told_now before now piece t.0 told t.1 in
+    let none : u.0 ≡ [] = subst (λ (left : Option (List ℕ)). IsAtEnd left) u.1 ended in
+    let rest : t.0 ≡ piece = u.2 ∙ ap (λ (p : List ℕ). piece ++ p) none ∙ append-nil piece in
+    ends_checked verdict bytes piece h.lines h.stage number (t.2 ∙ ap (λ (p : List ℕ). unlines h.lines ++ p) rest) h.unbroken one short h.says h.number (ends h.stage h.stands))
 
 pub end_with_piece : (text before now : Option (List ℕ)) (number : ℕ) (place : Place) (new : LinesView) (verdict : Checked) → HasCome text before number place → GivesPiece new before now → length new.line ≤ 4096 → ((stage : Stage) → StandsFor place stage → EndsAs stage new.line number verdict) → IsToldChecked text verdict
 end_with_piece text before now number place new verdict h g short ends =
@@ -144,18 +144,18 @@ end_without_piece text before now number place new verdict h g ends =
 pub long_checked : (text before now left : Option (List ℕ)) (number : ℕ) (place : Place) (new : LinesView) → HasCome text before number place → GivesTooLong new before now → now ≡ prepend_known new.kept left → new.longest ≡ 4096 → IsToldChecked text (Invalid number Form)
 long_checked text before now left number place new h g ahead longest =
     for_told text (λ bytes. IsChecked bytes (Invalid number Form)) (λ bytes is.
-      let t = told_now text before (unlines h.lines) bytes h.told is in
-      let u = told_now before left new.kept t.0 (sym g.same ∙ ahead) t.1 in
-      let long : 4096 < length (first_line (new.kept ++ u.0)) = first_line-long new.kept u.0 4096 (omega (arith, g.too_many)) (rw longest at g.unbroken) in
-      record {
-        lines = h.lines;
-        rest = t.0;
-        stage = h.stage;
-        split = record { whole = t.2; unbroken = h.unbroken };
-        says = h.says;
-        number = h.number;
-        next = inl (rw u.2 long, refl);
-      })
+    let t = told_now text before (unlines h.lines) bytes h.told is in
+    let u = told_now before left new.kept t.0 (sym g.same ∙ ahead) t.1 in
+    let long : 4096 < length (first_line (new.kept ++ u.0)) = first_line-long new.kept u.0 4096 (omega (arith, g.too_many)) (rw longest at g.unbroken) in
+    record {
+      lines = h.lines;
+      rest = t.0;
+      stage = h.stage;
+      split = record { whole = t.2; unbroken = h.unbroken };
+      says = h.says;
+      number = h.number;
+      next = inl (rw u.2 long, refl);
+    })
 
 -- ---- the loop over the lines
 
@@ -164,7 +164,7 @@ claim_number : (n : ℕ) (criteria : Criteria) (claims : List Claim) → AreClai
 claim_number n criteria [] h lt = absurd (omega arith)
 claim_number n criteria (claim ∷ claims) h lt =
     let e : claim ∷ claims ≡ take n (claim ∷ claims) ++ get_or (claim ∷ claims) n claim ∷ drop (suc n) (claim ∷ claims) =
-        sym (take-append-drop n (claim ∷ claims)) ∙ ap (λ (rest : List Claim). take n (claim ∷ claims) ++ rest) (drop-cons (claim ∷ claims) n claim lt) in
+    sym (take-append-drop n (claim ∷ claims)) ∙ ap (λ (rest : List Claim). take n (claim ∷ claims) ++ rest) (drop-cons (claim ∷ claims) n claim lt) in
     let room = (h.each (take n (claim ∷ claims)) (get_or (claim ∷ claims) n claim) (drop (suc n) (claim ∷ claims)) e).room in
     let len : length (take n (claim ∷ claims)) ≡ n = simp length-take (omega arith) in
     omega (arith, room, len)

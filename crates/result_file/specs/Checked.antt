@@ -139,7 +139,7 @@ pub record IsValid (text : List ℕ) : Type 0 where
   pub claims : List Claim
   pub right : AreClaims criteria claims
   pub lines : (text ≡ unlines (heading ∷ model_line criteria ∷ map claim_line claims) ++ end_line)
-    ⊎ (text ≡ unlines (heading ∷ model_line criteria ∷ map claim_line claims ++ end_line ∷ []))
+      ⊎ (text ≡ unlines (heading ∷ model_line criteria ∷ map claim_line claims ++ end_line ∷ []))
 
 -- a verdict that the text deserves
 abbrev pub IsChecked : List ℕ → Checked → Type 0

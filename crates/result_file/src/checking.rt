@@ -47,7 +47,12 @@ fn check_lines<S: Source>(lines: Lines, source: &mut S) -> Checked
 }
 
 /// Goes on by one line, of that number, or gives the verdict on the file.
-fn next_place<S: Source>(lines: &mut Lines, source: &mut S, place: Place, number: u32) -> Result<Place, Checked>
+fn next_place<S: Source>(
+    lines: &mut Lines,
+    source: &mut S,
+    place: Place,
+    number: u32,
+) -> Result<Place, Checked>
     requires { lines.old.longest ≡ longest_line }
     ensures next { IfOk result (λ next. (text : Option (List ℕ)) →
         HasCome text (ahead lines.old (S.left source.old)) number place → HasCome text (ahead lines.new (S.left source.new)) (number + 1) next) }
