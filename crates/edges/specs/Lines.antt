@@ -15,6 +15,10 @@ pub record LinesView : Type 0 where
   pub longest : ℕ
   pub reserved : ℕ
 
+-- a reader of lines of at most so many bytes, which took nothing yet
+abbrev pub new_lines : ℕ → LinesView
+new_lines longest = record { kept = []; line = []; longest = longest; reserved = longest }
+
 -- the text that lies ahead of a reader: the bytes that it kept and then those left in its source
 abbrev pub ahead : LinesView → Option (List ℕ) → Option (List ℕ)
 ahead lines left = prepend_known lines.kept left

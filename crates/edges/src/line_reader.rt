@@ -1,8 +1,8 @@
 //! Lines of a source, one at a time and without a copy.
-ghost use Rattle.std.specs.Prelude.{◌≡◌, ◌+◌, ◌<◌, ◌≤◌, [], ◌++◌, ◌∷◌, length, take, drop, slice_range, IfOk, OnOk, OnErr, Some};
+ghost use Rattle.std.specs.Prelude.{◌≡◌, ℕ, List, Option, ◌+◌, ◌-◌, ◌<◌, ◌≤◌, [], ◌++◌, ◌∷◌, length, take, drop, slice_range, IfOk, OnOk, OnErr, Some, vec_len};
 ghost use Rattle.edges.specs.Faults.{HasRisen};
-ghost use Rattle.edges.specs.Line.{HasNoLineEnd};
-ghost use Rattle.edges.specs.Lines.{CountsFault, Gives, IsLineEndWithin, KeepsLimits, ahead};
+ghost use Rattle.edges.specs.Line.{HasLineEnd, HasNoLineEnd};
+ghost use Rattle.edges.specs.Lines.{CountsFault, Gives, GivesLine, IsFirstLineEnd, IsLineEndWithin, KeepsLimits, ahead, new_lines};
 ghost use Rattle.edges.specs.Told.{IsAtEnd, Takes};
 
 use crate::NoMemory;
@@ -51,15 +51,23 @@ impl Model for Lines {
 
     ghost Value = { LinesView };
 
-    ghost view = { λ s. record { kept = slice_range s.buffer.items s.kept_start s.kept_end; line = slice_range s.buffer.items s.line_start s.line_end; longest = s.longest; reserved = s.reserved } };
+    ghost view = { λ s. record {
+      kept = slice_range s.buffer.items s.kept_start s.kept_end;
+      line = slice_range s.buffer.items s.line_start s.line_end;
+      longest = s.longest;
+      reserved = s.reserved;
+    } };
 
-    ghost invariant = { λ s. (s.line_start ≤ s.line_end) × (s.line_end ≤ s.kept_start) × (s.kept_start ≤ s.kept_end) × (s.kept_end ≤ length s.buffer.items) × (s.longest ≤ s.reserved) × (s.reserved < length s.buffer.items) };
+    // The line stands before the bytes kept, and there is room for a byte more than the longest line.
+    ghost invariant = { λ s. (s.line_start ≤ s.line_end) × (s.line_end ≤ s.kept_start) × (s.kept_start ≤ s.kept_end)
+        × (s.kept_end ≤ length s.buffer.items)
+        × (s.longest ≤ s.reserved) × (s.reserved < length s.buffer.items) };
 }
 
 impl Lines {
     /// A reader of lines of at most `longest` bytes, line ends not counted.
     pub fn reserve(alloc: Global, longest: u32) -> Result<Lines, NoMemory>
-        ensures { IfOk result (λ lines. lines ≡ record { kept = []; line = []; longest = longest; reserved = longest }) }
+        ensures { IfOk result (λ lines. lines ≡ new_lines longest) }
     {
         let reserved = longest as usize;
         Ok(Lines {
@@ -83,18 +91,37 @@ impl Lines {
 
     /// Goes on to the next line of the bytes kept and then of `source`.
     pub fn next_line<S: Source>(&mut self, source: &mut S) -> LineGot
-        ensures got { Gives result self.new (ahead self.old (S.left source.old)) (ahead self.new (S.left source.new)) }
+        ensures got { Gives result self.new
+            (ahead self.old (S.left source.old)) (ahead self.new (S.left source.new)) }
         ensures limits { KeepsLimits self.old self.new }
         ensures faults { CountsFault result (S.faults source.old) (S.faults source.new) }
+
+        // The source is not called where the bytes kept hold a line, or are too many without one.
+        ensures line_kept { HasLineEnd (take (self.old.longest + 1) self.old.kept) → source.new ≡ source.old }
+        ensures too_many_kept { self.old.longest < length self.old.kept → source.new ≡ source.old }
     {
         self.show(0, 0);
-        let mut searched = 0;
-        loop {
-            if let Some(end) = self.line_end_from(searched) {
-                self.show(end, 1);
-                return LineGot::Line;
+        match self.line_end_from(0) {
+            Some(end) => {
+                self.give_line(end);
+                LineGot::Line
             }
-            searched = self.kept_len();
+            None => self.next_line_of(source),
+        }
+    }
+
+    /// Goes on to the next line where the bytes kept hold none.
+    fn next_line_of<S: Source>(&mut self, source: &mut S) -> LineGot
+        requires unbroken { HasNoLineEnd (take (self.old.longest + 1) self.old.kept) }
+        requires no_line { self.old.line ≡ [] }
+        ensures got { Gives result self.new
+            (ahead self.old (S.left source.old)) (ahead self.new (S.left source.new)) }
+        ensures limits { KeepsLimits self.old self.new }
+        ensures faults { CountsFault result (S.faults source.old) (S.faults source.new) }
+        ensures too_many_kept { self.old.longest < length self.old.kept → source.new ≡ source.old }
+    {
+        loop {
+            let searched = self.kept_len();
             if searched > self.longest() {
                 return LineGot::TooLong;
             }
@@ -102,6 +129,10 @@ impl Lines {
                 Err(Failed) => return LineGot::ReadFault,
                 Ok(0) => return self.give_rest(),
                 Ok(_) => {}
+            }
+            if let Some(end) = self.line_end_from(searched) {
+                self.give_line(end);
+                return LineGot::Line;
             }
         }
     }
@@ -144,7 +175,7 @@ impl Lines {
         ensures limits { KeepsLimits self.old self.new }
     {
         let kept = self.kept_end - self.kept_start;
-        self.buffer.copy_within(self.kept_start..self.kept_end, 0);
+        move_to_front(&mut self.buffer, self.kept_start, self.kept_end);
         self.line_start = 0;
         self.line_end = 0;
         self.kept_start = 0;
@@ -154,12 +185,22 @@ impl Lines {
         Ok(taken)
     }
 
+    /// Gives the bytes kept before the first line end as the line.
+    fn give_line(&mut self, end: usize)
+        requires { IsFirstLineEnd self.old.kept self.old.longest end }
+        ensures line { (left : Option (List ℕ)) → GivesLine self.new (ahead self.old left) (ahead self.new left) }
+        ensures limits { KeepsLimits self.old self.new }
+    {
+        self.show(end, 1);
+    }
+
     /// Gives all that is kept as a piece, at the end of input.
     fn give_rest(&mut self) -> LineGot
-        ensures piece { 0 < length self.old.kept → result ≡ LineGot.Piece }
-        ensures end { length self.old.kept ≡ 0 → result ≡ LineGot.End }
-        ensures line { self.new.line ≡ self.old.kept }
-        ensures kept { self.new.kept ≡ [] }
+        requires unbroken { HasNoLineEnd self.old.kept }
+        requires fits { length self.old.kept ≤ self.old.longest }
+        ensures got { (left : Option (List ℕ)) → IsAtEnd left
+            → Gives result self.new (ahead self.old left) (ahead self.new left) }
+        ensures no_fault { (faults : ℕ) → CountsFault result faults faults }
         ensures limits { KeepsLimits self.old self.new }
     {
         let rest = self.kept_len();
@@ -193,13 +234,21 @@ fn line_end_within(kept: &[u8], searched: usize, longest: usize) -> Option<usize
     requires fits { searched ≤ longest }
     ensures { IsLineEndWithin kept.now longest result }
 {
-    let end = if kept.len() > longest {
-        longest + 1
-    } else {
-        kept.len()
-    };
+    let end = kept.len().min(longest.saturating_add(1));
     let found = memchr(LINE_END, &kept[searched..end])?;
     Some(searched + found)
+}
+
+/// Moves the bytes from `start` to `end` to the front of the buffer.
+fn move_to_front(buffer: &mut Vec<u8>, start: usize, end: usize)
+    requires order { start ≤ end }
+    requires within { end ≤ vec_len buffer.old }
+    ensures front { take (end - start) buffer.new.items ≡ slice_range buffer.old.items start end }
+    ensures len { vec_len buffer.new ≡ vec_len buffer.old }
+{
+    if start > 0 {
+        buffer.copy_within(start..end, 0);
+    }
 }
 
 /// Takes bytes of the source into `buffer` behind its first `kept` bytes, and returns how many.
@@ -207,7 +256,8 @@ fn take_behind<S: Source>(buffer: &mut [u8], kept: usize, source: &mut S) -> Res
     requires { kept < length buffer.old }
     ensures within { IfOk result (λ n. kept + n ≤ length buffer.old) }
     ensures front { take kept buffer.new ≡ take kept buffer.old }
-    ensures taken { IfOk result (λ n. Takes (S.left source.old) (S.left source.new) (slice_range buffer.new kept (kept + n))) }
+    ensures taken { IfOk result (λ n.
+        Takes (S.left source.old) (S.left source.new) (slice_range buffer.new kept (kept + n))) }
     ensures ended { IfOk result (λ n. n ≡ 0 → IsAtEnd (S.left source.new)) }
     ensures quiet { OnOk result (S.faults source.new ≡ S.faults source.old) }
     ensures failed { OnErr result (HasRisen (S.faults source.old) (S.faults source.new)) }

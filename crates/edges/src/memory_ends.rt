@@ -1,5 +1,6 @@
 //! A source and a sink over memory, which fail at the calls that their maker names.
 ghost use Rattle.std.specs.Prelude.{◌≡◌, ◌↔◌, ◌+◌, ◌-◌, ◌^◌, ◌<◌, ◌≤◌, [], ◌++◌, length, take, min, Contains, Some, IfOk, IsErr, IsOk, IsTrue, OnOk, OnErr};
+ghost use Rattle.edges.specs.Ends.{new_sink, new_source};
 ghost use Rattle.edges.specs.Faults.{HasRisen};
 ghost use Rattle.edges.specs.Told.{Appends, IsAtEnd, Takes};
 
@@ -25,7 +26,13 @@ impl Model for MemSource {
 
     ghost Value = { MemSourceView };
 
-    ghost view = { λ s. record { left = drop s.given s.bytes.items; piece = s.piece; fails = s.fails.items; calls = s.calls; faults = s.faults } };
+    ghost view = { λ s. record {
+      left = drop s.given s.bytes.items;
+      piece = s.piece;
+      fails = s.fails.items;
+      calls = s.calls;
+      faults = s.faults;
+    } };
 
     ghost invariant = { λ s. (s.given ≤ length s.bytes.items) × (1 ≤ s.piece) };
 }
@@ -40,7 +47,7 @@ impl MemSource {
         fails: &[u32],
     ) -> Result<MemSource, NoMemory>
         requires { 1 ≤ piece }
-        ensures { IfOk result (λ source. source ≡ record { left = bytes.now; piece = piece; fails = fails.now; calls = 0; faults = 0 }) }
+        ensures { IfOk result (λ source. source ≡ new_source bytes.now piece fails.now) }
     {
         Ok(MemSource {
             bytes: Vec::from_slice(alloc, bytes)?,
@@ -103,7 +110,13 @@ impl Model for MemSink {
 
     ghost Value = { MemSinkView };
 
-    ghost view = { λ s. record { bytes = s.bytes.items; room = s.room; fails = s.fails.items; calls = s.calls; faults = s.faults } };
+    ghost view = { λ s. record {
+      bytes = s.bytes.items;
+      room = s.room;
+      fails = s.fails.items;
+      calls = s.calls;
+      faults = s.faults;
+    } };
 
     ghost invariant = { λ s. (length s.bytes.items ≤ s.room) × (s.room ≤ vec_capacity s.bytes) };
 }
@@ -112,7 +125,7 @@ impl MemSink {
     /// Takes each piece whole, or as much of it as `room` still has. It fails at the calls whose
     /// numbers, from 1, stand in `fails`, and where no room is left.
     pub fn new(alloc: Global, room: usize, fails: &[u32]) -> Result<MemSink, NoMemory>
-        ensures { IfOk result (λ sink. sink ≡ record { bytes = []; room = room; fails = fails.now; calls = 0; faults = 0 }) }
+        ensures { IfOk result (λ sink. sink ≡ new_sink room fails.now) }
     {
         Ok(MemSink {
             bytes: Vec::with_capacity(alloc, room)?,
@@ -146,7 +159,8 @@ impl Sink for MemSink {
 
         // It takes all that it has room for, and fails exactly at the calls named or without room.
         ensures count { IfOk result (λ n. n ≡ min (length buf.now) (self.old.room - length self.old.bytes)) }
-        ensures named { OnErr result (¬ (Contains self.old.fails self.new.calls) → self.old.room ≡ length self.old.bytes) }
+        ensures named { OnErr result (¬ (Contains self.old.fails self.new.calls)
+            → self.old.room ≡ length self.old.bytes) }
         ensures not_named { OnOk result (¬ (Contains self.old.fails self.new.calls)) }
         ensures counted { self.new.calls ≡ min (self.old.calls + 1) (2 ^ 64 - 1) }
         ensures room { self.new.room ≡ self.old.room }

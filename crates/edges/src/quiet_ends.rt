@@ -1,6 +1,6 @@
 //! A source and a sink that never fail.
 ghost use Rattle.std.specs.Prelude.{◌≡◌, ◌+◌, ◌-◌, ◌^◌, ◌<◌, ◌≤◌, List, [], ◌++◌, length, take, drop, min, Some, None, IfOk, IsOk, OnOk, OnErr, ◌==◌, if◌then◌else◌};
-ghost use Rattle.edges.specs.Ends.{told_bytes};
+ghost use Rattle.edges.specs.Ends.{free_of, new_quiet_sink, told_bytes};
 ghost use Rattle.edges.specs.Faults.{HasRisen, no_faults};
 ghost use Rattle.edges.specs.Told.{Appends, IsAtEnd, Takes};
 
@@ -87,7 +87,7 @@ impl Model for QuietSink {
 impl QuietSink {
     /// Keeps the first `room` bytes.
     pub fn new(alloc: Global, room: usize) -> Result<QuietSink, NoMemory>
-        ensures { IfOk result (λ sink. sink ≡ record { bytes = []; room = room; dropped = 0 }) }
+        ensures { IfOk result (λ sink. sink ≡ new_quiet_sink room) }
     {
         Ok(QuietSink {
             bytes: Vec::with_capacity(alloc, room)?,
@@ -128,8 +128,8 @@ impl Sink for QuietSink {
 
         // It never fails, takes each piece whole, and keeps what it has room for.
         ensures never { result ≡ Ok (length buf.now) }
-        ensures kept { self.new.bytes ≡ self.old.bytes ++ take (self.old.room - length self.old.bytes) buf.now }
-        ensures dropped { self.new.dropped ≡ min (self.old.dropped + (length buf.now - (self.old.room - length self.old.bytes))) (2 ^ 64 - 1) }
+        ensures kept { self.new.bytes ≡ self.old.bytes ++ take (free_of self.old) buf.now }
+        ensures dropped { self.new.dropped ≡ min (self.old.dropped + (length buf.now - free_of self.old)) (2 ^ 64 - 1) }
         ensures room { self.new.room ≡ self.old.room }
     {
         let n = buf.len().min(self.room - self.bytes.len());

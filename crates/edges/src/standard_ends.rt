@@ -5,6 +5,7 @@ ghost use Rattle.edges.specs.Told.{Appends, IsAtEnd, Takes};
 
 use crate::ends::{Failed, Sink, Source};
 use std::io::{ErrorKind, Read, Stdin, Stdout, Write};
+use std::marker::Model;
 
 /// How often an interrupted call is made: once, and 1,000 times again.
 const MOST_CALLS: u32 = 1_001;
@@ -16,8 +17,20 @@ pub struct StdSource {
     faults: u64,
 }
 
+// Contracts see the count of faults.
+impl Model for StdSource {
+    ghost use Rattle.std.specs.Prelude.{ℕ};
+
+    ghost Value = { ℕ };
+
+    ghost view = { λ source. source.faults };
+}
+
 impl StdSource {
-    pub fn new(stdin: Stdin) -> StdSource {
+    /// No call failed so far.
+    pub fn new(stdin: Stdin) -> StdSource
+        ensures { result ≡ 0 }
+    {
         StdSource { stdin, faults: 0 }
     }
 }
@@ -25,7 +38,7 @@ impl StdSource {
 impl Source for StdSource {
     ghost left = { λ _. None };
 
-    ghost faults = { λ source. source.faults };
+    ghost faults = { λ source. source };
 
     fn take(&mut self, buf: &mut [u8]) -> Result<usize, Failed> {
         let taken = read_some(&mut self.stdin, buf);
@@ -43,8 +56,20 @@ pub struct StdSink {
     faults: u64,
 }
 
+// Contracts see the count of faults.
+impl Model for StdSink {
+    ghost use Rattle.std.specs.Prelude.{ℕ};
+
+    ghost Value = { ℕ };
+
+    ghost view = { λ sink. sink.faults };
+}
+
 impl StdSink {
-    pub fn new(stdout: Stdout) -> StdSink {
+    /// No call failed so far.
+    pub fn new(stdout: Stdout) -> StdSink
+        ensures { result ≡ 0 }
+    {
         StdSink { stdout, faults: 0 }
     }
 }
@@ -52,7 +77,7 @@ impl StdSink {
 impl Sink for StdSink {
     ghost written = { λ _. None };
 
-    ghost faults = { λ sink. sink.faults };
+    ghost faults = { λ sink. sink };
 
     fn put(&mut self, buf: &[u8]) -> Result<usize, Failed> {
         let put = write_some(&mut self.stdout, buf);

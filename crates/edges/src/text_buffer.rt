@@ -1,6 +1,7 @@
 //! A text that is put together in memory and then written to a sink.
 ghost use Rattle.std.specs.Prelude.{◌≡◌, ◌+◌, ◌<◌, ◌≤◌, [], ◌++◌, length, IfOk, OnOk, OnErr, MatchResult};
 ghost use Rattle.edges.specs.Faults.{HasRisen};
+ghost use Rattle.edges.specs.Text.{new_text};
 ghost use Rattle.edges.specs.Told.{Appends, AppendsPrefix};
 
 use crate::NoMemory;
@@ -29,7 +30,7 @@ impl Model for Text {
 impl Text {
     /// An empty text with room for `room` bytes.
     pub fn reserve(alloc: Global, room: u32) -> Result<Text, NoMemory>
-        ensures { IfOk result (λ text. text ≡ record { bytes = []; room = room }) }
+        ensures { IfOk result (λ text. text ≡ new_text room) }
     {
         Ok(Text {
             bytes: Vec::with_capacity(alloc, room as usize)?,
