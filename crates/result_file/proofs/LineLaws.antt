@@ -1,9 +1,9 @@
 -- What a line reads as is what it spells.
-use Rattle.std.proofs.Common.{◌≡◌, ◌≢◌, ℕ, zero, suc, ◌+◌, ◌<◌, ◌≤◌, ◌^◌, Bool, true, false, cond, ◌==◌, List, [], ◌∷◌, ◌++◌, length, ◌*◌, length-append, drop, refl, sym, ap, subst, ◌∙◌, arith, append_assoc, append-nil, Option, Some, None, ◌⊎◌, inl, inr, codes, lit<}
+use Rattle.std.proofs.Common.{◌≡◌, ℕ, suc, ◌+◌, ◌<◌, ◌≤◌, ◌^◌, true, false, cond, ◌==◌, List, [], ◌∷◌, ◌++◌, length, ◌*◌, length-append, refl, sym, ap, subst, ◌∙◌, arith, append_assoc, append-nil, Option, Some, None, ◌⊎◌, inl, inr, codes, lit<}
 use Rattle.std.specs.List.{All, flat_map}
 use Rattle.std.specs.Fmt.{decimal}
-use Rattle.text_fields.specs.Spelling.{EndsList, EndsNumber, IsList, listed, is_next}
-use Rattle.text_fields.specs.Reading.{◌>>=◌, word_at, number_at, list_at}
+use Rattle.text_fields.specs.Spelling.{EndsNumber, IsList, listed, is_next}
+use Rattle.text_fields.specs.Reading.{word_at, number_at, list_at}
 use Rattle.text_fields.specs.Laws.{IsField}
 use Rattle.text_fields.proofs.NumberLaws.{numbers_field, bind_some, some_is}
 use Rattle.text_fields.proofs.ListLaws.{list_field}

@@ -1,6 +1,5 @@
 -- What one more line does to a stage.
-use Rattle.std.proofs.Common.{◌≡◌, ◌≢◌, ℕ, zero, suc, ◌+◌, ◌-◌, ◌<◌, ◌≤◌, List, [], ◌∷◌, ◌++◌, length, map, take, refl, sym, ap, subst, ◌∙◌, arith, append_assoc, length-append, Option, Some, None, ◌⊎◌, inl, inr}
-use Rattle.std.specs.Prelude.{sum_by}
+use Rattle.std.proofs.Common.{◌≡◌, ◌≢◌, ℕ, suc, ◌+◌, ◌-◌, ◌<◌, ◌≤◌, List, [], ◌∷◌, ◌++◌, length, take, refl, sym, ap, subst, ◌∙◌, arith, length-append, Some, None, ◌⊎◌, inl, inr}
 use Rattle.std.specs.List.{All}
 use Rattle.std.proofs.lemmas.List.{map_push}
 use Rattle.std.proofs.lemmas.List.Sums.{sum_by-cons}
@@ -13,15 +12,14 @@ use Rattle.criteria_model.specs.declared.faults.ModelFault.{ModelFault}
 use Rattle.result_file.specs.declared.claims.Claim.{Claim}
 use Rattle.result_file.specs.declared.claims.Claim.TheVariants as claims
 use Rattle.result_file.specs.declared.places.Claims.{Claims}
-use Rattle.result_file.specs.declared.places.Place.{Place}
 use Rattle.result_file.specs.declared.places.Place.TheVariants as places
 use Rattle.result_file.specs.declared.verdicts.Part.{Part}
 use Rattle.result_file.specs.declared.verdicts.Part.TheVariants.{Form, Model}
-use Rattle.result_file.specs.Texts.{claim_line, model_line, answer_line, heading, end_line}
+use Rattle.result_file.specs.Texts.{claim_line, model_line, end_line}
 use Rattle.result_file.specs.Reading.{answer_at, model_at}
-use Rattle.result_file.specs.Checked.{most_claims, HasForm, HasPairForm, HasSideForm, HasModelForm, IsRight, FailsAs, AreClaims, pair_of, Stage, Blank, Headed, Begun, Ended, Says, Fails}
+use Rattle.result_file.specs.Checked.{most_claims, HasForm, IsRight, FailsAs, AreClaims, pair_of, Stage, Blank, Headed, Begun, Ended, Says, Fails}
 use Rattle.result_file.specs.Places.{Keeps, Adds, StandsFor, GoesOn}
-use Rattle.result_file.proofs.LineLaws.{IsPair, IsSide, answer_takes, answer_again, model_takes, model_again}
+use Rattle.result_file.proofs.LineLaws.{IsPair, answer_takes, answer_again, model_takes, model_again}
 
 -- ---- claims and their lines
 

@@ -1,11 +1,11 @@
 -- What each line, and the end of the text, says of a text.
-use Rattle.std.proofs.Common.{◌≡◌, ◌≢◌, ℕ, ◌+◌, ◌<◌, ◌≤◌, List, [], ◌∷◌, ◌++◌, length, map, zero, suc, take, drop, get_or, take-append-drop, drop-cons, length-take, refl, sym, ap, subst, ◌∙◌, arith, append-nil, length-append, ◌⊎◌, inl, inr}
+use Rattle.std.proofs.Common.{◌≡◌, ℕ, ◌+◌, ◌<◌, ◌≤◌, List, [], ◌∷◌, ◌++◌, length, map, suc, take, drop, get_or, take-append-drop, drop-cons, length-take, refl, sym, ap, subst, ◌∙◌, arith, append-nil, length-append, inl, inr}
 use Rattle.std.specs.Prelude.{Option, Some, None, IfSome, All}
 use Rattle.std.specs.Io.KnownBytes.{prepend_known}
 use Rattle.std.proofs.lemmas.List.Elements.{All-nil, All-cons, All-append}
 use Rattle.edges.specs.Line.{HasNoLineEnd, first_line, line_end, unlines}
 use Rattle.edges.specs.Lines.{LinesView, GivesLine, GivesPiece, GivesEnd, GivesTooLong, ahead}
-use Rattle.edges.specs.Told.{Takes, IsAtEnd}
+use Rattle.edges.specs.Told.{IsAtEnd}
 use Rattle.edges.proofs.ToldLemmas.{prepend_known-append, prepend_known-nil}
 use Rattle.edges.proofs.LineLaws.{first_line-long, unlines-push}
 use Rattle.std.proofs.lemmas.Bool.{cases_lt}

@@ -1,7 +1,7 @@
 -- Checked files: which bytes are valid, and what is wrong with the others. A file of claims has a heading, a
 -- model and answers. It is told by what its lines are, whatever reads them.
 use Rattle.std.specs.Prelude.{◌≡◌, ◌≢◌, ◌⊎◌, ℕ, ◌+◌, ◌<◌, ◌≤◌, List, [], ◌∷◌, ◌++◌, length, map, All, None}
-use Rattle.edges.specs.Line.{HasNoLineEnd, first_line, line_end, unlines}
+use Rattle.edges.specs.Line.{HasNoLineEnd, first_line, unlines}
 use Rattle.criteria_model.specs.declared.pairs.Pair.{Pair}
 use Rattle.criteria_model.specs.Criteria.{Criteria, IsModel}
 use Rattle.criteria_model.specs.Faults.{model_fault}

@@ -7,12 +7,11 @@ use Rattle.result_file.specs.declared.claims.Claim.{Claim}
 use Rattle.result_file.specs.declared.places.Claims.{Claims}
 use Rattle.result_file.specs.declared.places.Place.{Place}
 use Rattle.result_file.specs.declared.places.Place.TheVariants as places
-use Rattle.result_file.specs.declared.verdicts.Part.{Part}
 use Rattle.result_file.specs.declared.verdicts.Part.TheVariants.{Form}
 use Rattle.result_file.specs.declared.verdicts.Checked.{Checked}
 use Rattle.result_file.specs.declared.verdicts.Checked.TheVariants.{Valid, Invalid, Unfinished}
 use Rattle.result_file.specs.Texts.{claim_line, end_line}
-use Rattle.result_file.specs.Checked.{HasForm, IsRight, FailsAs, Stage, Blank, Headed, Begun, Ended, Says, Fails, HasBegun, HasEnded, LeavesOpen, IsChecked}
+use Rattle.result_file.specs.Checked.{IsRight, Stage, Blank, Headed, Begun, Ended, Says, HasBegun, HasEnded, LeavesOpen, IsChecked}
 
 -- the reader keeps the model, the number of its criteria, and how many claims came
 pub record Keeps (kept : Claims) (criteria : Criteria) (claims : List Claim) : Type 0 where

@@ -1,11 +1,9 @@
 -- What a line reads as: the numbers or the claim that it spells, or none.
-use Rattle.std.specs.Prelude.{◌≡◌, ℕ, ◌==◌, List, [], ◌∷◌, length, codes, Option, Some, None, if◌then◌else◌}
+use Rattle.std.specs.Prelude.{ℕ, ◌==◌, List, [], ◌∷◌, length, codes, Option, Some, None, if◌then◌else◌}
 use Rattle.text_fields.specs.Reading.{◌>>=◌, word_at, number_at, list_at}
 use Rattle.criteria_model.specs.declared.pairs.Pair.{Pair}
-use Rattle.criteria_model.specs.declared.pairs.Answer.{Answer}
 use Rattle.criteria_model.specs.declared.pairs.Side.{Side}
 use Rattle.criteria_model.specs.declared.pairs.Side.TheVariants.{Left, Right, Equal}
-use Rattle.criteria_model.specs.Criteria.{Criteria}
 use Rattle.result_file.specs.declared.claims.Claim.{Claim}
 use Rattle.result_file.specs.declared.claims.Claim.TheVariants as claims
 
