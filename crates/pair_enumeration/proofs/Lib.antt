@@ -1,3 +1,6 @@
 pub mod WalkLemmas
 pub mod Members
 pub mod TailMembers
+pub mod TailClasses
+pub mod TailOrder
+pub mod TailCounts
