@@ -3,6 +3,7 @@ use Rattle.std.proofs.Common.{◌≡◌, ◌≢◌, ◌⊎◌, inl, inr, ℕ, ze
 use Rattle.std.specs.List.{range_with_len}
 use Rattle.std.specs.Option.{option_map_or}
 use Rattle.std.specs.Ordering.{ordering_then}
+use Rattle.std.specs.Cmp.{nat_cmp_is}
 use Rattle.std.specs.Cmp.Lexicographic.{slice_cmp}
 use Rattle.criteria_model.specs.declared.pairs.Pair.{Pair}
 use Rattle.criteria_model.specs.Alternatives.{degree}
@@ -22,10 +23,10 @@ abbrev pub Precedes : Tail → Tail → Type 0
 Precedes t u = slice_cmp nat_cmp (codes t) (codes u) ≡ Less
 
 cmp_less : (a b : ℕ) → a < b → nat_cmp a b ≡ Less
-cmp_less a b h = ?
+cmp_less a b h = sym (nat_cmp_is a b Less h)
 
 cmp_same : (a : ℕ) → nat_cmp a a ≡ Equal
-cmp_same a = ?
+cmp_same a = sym (nat_cmp_is a a Equal refl)
 
 -- ---- heads decide, or tails do
 precedes_left : (a b c d : ℕ) (xs ys : List ℕ) → a < c → slice_cmp nat_cmp (a ∷ b ∷ xs) (c ∷ d ∷ ys) ≡ Less
