@@ -4,3 +4,4 @@ pub mod TailMembers
 pub mod TailClasses
 pub mod TailOrder
 pub mod TailCounts
+pub mod SearchLemmas

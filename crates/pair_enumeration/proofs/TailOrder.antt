@@ -10,40 +10,33 @@ use Rattle.criteria_model.specs.Alternatives.{degree}
 use Rattle.criteria_model.specs.Classes.{order_level, order_key, ComesBefore}
 use Rattle.pair_enumeration.specs.declared.walks.Stage.{Stage}
 use Rattle.pair_enumeration.specs.declared.walks.Stage.TheVariants.{Same, Left, Both}
-use Rattle.pair_enumeration.specs.Walks.{stage_after, Tail, with_levels, option_tails, row_tails, differing_tails, tails, joined, listed_classes}
+use Rattle.pair_enumeration.specs.Walks.{stage_after, Tail, with_levels, option_tails, row_tails, differing_tails, tails, joined, listed_classes, codes, Precedes}
 use Rattle.pair_enumeration.proofs.Members.{Among, Sorted, among-map, among-flat_map, among-range, sorted-append, sorted-map, sorted-flat_map-range}
 use Rattle.pair_enumeration.proofs.TailMembers.{Differs, IsTail, differing_found, tails_are}
 use Rattle.pair_enumeration.proofs.TailClasses.{IsTold, from_tail, after_differs, zip-lefts, lefts, rights}
 
--- what the order reads of a tail
-abbrev pub codes : Tail → List ℕ
-codes t = flat_map (λ p. order_level p.0 ∷ order_level p.1 ∷ []) t
-
-abbrev pub Precedes : Tail → Tail → Type 0
-Precedes t u = slice_cmp nat_cmp (codes t) (codes u) ≡ Less
-
-cmp_less : (a b : ℕ) → a < b → nat_cmp a b ≡ Less
+pub cmp_less : (a b : ℕ) → a < b → nat_cmp a b ≡ Less
 cmp_less a b h = sym (nat_cmp_is a b Less h)
 
-cmp_same : (a : ℕ) → nat_cmp a a ≡ Equal
+pub cmp_same : (a : ℕ) → nat_cmp a a ≡ Equal
 cmp_same a = sym (nat_cmp_is a a Equal refl)
 
 -- ---- heads decide, or tails do
-precedes_left : (a b c d : ℕ) (xs ys : List ℕ) → a < c → slice_cmp nat_cmp (a ∷ b ∷ xs) (c ∷ d ∷ ys) ≡ Less
+pub precedes_left : (a b c d : ℕ) (xs ys : List ℕ) → a < c → slice_cmp nat_cmp (a ∷ b ∷ xs) (c ∷ d ∷ ys) ≡ Less
 precedes_left a b c d xs ys h = ap (λ r. ordering_then r (slice_cmp nat_cmp (b ∷ xs) (d ∷ ys))) (cmp_less a c h)
 
-precedes_right : (a b d : ℕ) (xs ys : List ℕ) → b < d → slice_cmp nat_cmp (a ∷ b ∷ xs) (a ∷ d ∷ ys) ≡ Less
+pub precedes_right : (a b d : ℕ) (xs ys : List ℕ) → b < d → slice_cmp nat_cmp (a ∷ b ∷ xs) (a ∷ d ∷ ys) ≡ Less
 precedes_right a b d xs ys h =
     ap (λ r. ordering_then r (slice_cmp nat_cmp (b ∷ xs) (d ∷ ys))) (cmp_same a)
     ∙ ap (λ r. ordering_then r (slice_cmp nat_cmp xs ys)) (cmp_less b d h)
 
-precedes_rest : (a b : ℕ) (xs ys : List ℕ) → slice_cmp nat_cmp xs ys ≡ Less → slice_cmp nat_cmp (a ∷ b ∷ xs) (a ∷ b ∷ ys) ≡ Less
+pub precedes_rest : (a b : ℕ) (xs ys : List ℕ) → slice_cmp nat_cmp xs ys ≡ Less → slice_cmp nat_cmp (a ∷ b ∷ xs) (a ∷ b ∷ ys) ≡ Less
 precedes_rest a b xs ys h =
     ap (λ r. ordering_then r (slice_cmp nat_cmp (b ∷ xs) (b ∷ ys))) (cmp_same a)
     ∙ ap (λ r. ordering_then r (slice_cmp nat_cmp xs ys)) (cmp_same b)
     ∙ h
 
-level_is : (x : ℕ) → 1 ≤ x → order_level x ≡ x
+pub level_is : (x : ℕ) → 1 ≤ x → order_level x ≡ x
 level_is x h = ap (λ b. cond b 25 x) (ne_eqb x 0 (λ e. omega arith))
 
 -- two differences on one criterion
@@ -123,7 +116,7 @@ key_is levels d t h =
     let r = from_tail levels d Same t (tails_are levels d Same t h) in
     ap₂ (λ (k : ℕ) (u : Tail). k ∷ codes u) (sym r.degree_of) (zip-lefts t)
 
-precedes_comes_before : (levels : List ℕ) (d : ℕ) (t u : Tail) → Among t (tails levels d Same) → Among u (tails levels d Same) → Precedes t u → ComesBefore (joined [] [] t) (joined [] [] u)
+pub precedes_comes_before : (levels : List ℕ) (d : ℕ) (t u : Tail) → Among t (tails levels d Same) → Among u (tails levels d Same) → Precedes t u → ComesBefore (joined [] [] t) (joined [] [] u)
 precedes_comes_before levels d t u m k h =
     ap₂ (λ a b. slice_cmp nat_cmp a b) (key_is levels d t m) (key_is levels d u k)
     ∙ ap (λ r. ordering_then r (slice_cmp nat_cmp (codes t) (codes u))) (cmp_same d)

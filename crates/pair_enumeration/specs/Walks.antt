@@ -3,7 +3,11 @@
 use Rattle.std.specs.Prelude.{◌≡◌, ℕ, zero, suc, ◌+◌, ◌-◌, ◌≤◌, List, [], ◌∷◌, ◌++◌, length, take, drop, map, All, nat_lt, ◌==◌, if◌then◌else◌, Option, Some, None, flat_map}
 use Rattle.std.specs.Option.{option_map_or}
 use Rattle.std.specs.List.{range_with_len}
+use Rattle.std.specs.Ordering.{nat_cmp}
+use Rattle.std.specs.declared.cmp.Ordering.TheVariants.{Less}
+use Rattle.std.specs.Cmp.Lexicographic.{slice_cmp}
 use Rattle.criteria_model.specs.declared.pairs.Pair.{Pair}
+use Rattle.criteria_model.specs.Classes.{order_level}
 use Rattle.pair_enumeration.specs.declared.walks.Stage.{Stage}
 use Rattle.pair_enumeration.specs.declared.walks.Stage.TheVariants.{Same, Left, Both}
 use Rattle.pair_enumeration.specs.declared.walks.Walk.{Walk}
@@ -17,6 +21,14 @@ stage_after Both left right = if left == right then None else Some Both
 -- the levels of the criteria that are still to come
 abbrev pub Tail : Type 0
 Tail = List (ℕ × ℕ)
+
+-- what the order reads of levels, criterion by criterion
+abbrev pub codes : Tail → List ℕ
+codes tail = flat_map (λ p. order_level p.0 ∷ order_level p.1 ∷ []) tail
+
+-- the first tail's levels stand before the second's, by their left level and then their right level
+abbrev pub Precedes : Tail → Tail → Type 0
+Precedes tail other = slice_cmp nat_cmp (codes tail) (codes other) ≡ Less
 
 -- one criterion more in front of each tail
 abbrev pub with_levels : ℕ → ℕ → List Tail → List Tail

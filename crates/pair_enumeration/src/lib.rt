@@ -1,7 +1,10 @@
 //! All classes of a model, in order, and the place of each.
 #![tactic(auto)]
 
+pub use classes::Classes;
 pub use flips::Flip;
 
+mod classes;
 mod flips;
+mod search;
 mod walks;

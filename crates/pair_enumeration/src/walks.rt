@@ -158,7 +158,7 @@ fn extend_with(
 }
 
 /// All classes with a degree up to the limit over criteria of these level counts, in order.
-pub(crate) fn list(alloc: Global, counts: &[u8], limit: usize, room: usize) -> Result<Vec<Pair>, NoMemory>
+pub(crate) fn list_classes(alloc: Global, counts: &[u8], limit: usize, room: usize) -> Result<Vec<Pair>, NoMemory>
     requires some { 1 ≤ length counts.now }
     requires most { length counts.now ≤ 24 }
     requires levels { All (λ n. n ≤ 25) counts.now }

@@ -3,7 +3,7 @@ use Rattle.std.specs.List.{range_with_len}
 use Rattle.pair_enumeration.specs.declared.walks.Stage.TheVariants.{Same}
 use Rattle.pair_enumeration.specs.Walks.{tails, joined}
 use Rattle.pair_enumeration.proofs.WalkLemmas.{degrees_more}
-use Rattle.pair_enumeration.proofs.walks.list.Goals as goal
+use Rattle.pair_enumeration.proofs.walks.list_classes.Goals as goal
 
 pub loop-degree-preserved : goal.loop-degree-preserved
 loop-degree-preserved c =
