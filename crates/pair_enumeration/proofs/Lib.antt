@@ -5,3 +5,5 @@ pub mod TailClasses
 pub mod TailOrder
 pub mod TailCounts
 pub mod SearchLemmas
+pub mod PlaceLemmas
+pub mod ListLemmas

@@ -74,6 +74,7 @@ impl Classes {
     pub fn place(&self, pair: &Pair) -> Option<u32>
         ensures some { IsSome result ↔ IsClass self.now.criteria pair.now }
         ensures found { IfSome result (λ place. StandsAt self.now.classes place pair.now) }
+        ensures listed { IsListed self.now }
     {
         if !self.model.fits(pair) {
             return None;

@@ -27,11 +27,18 @@ pub(crate) fn place_among(model: &Model, pairs: &[Pair], pair: &Pair) -> Option<
             high = middle;
         }
     }
-    if low < pairs.len() && pairs[low] == *pair {
+    if low < pairs.len() && is_same(&pairs[low], pair) {
         Some(low as u32 + 1)
     } else {
         None
     }
+}
+
+/// Whether the two pairs are the same.
+fn is_same(a: &Pair, b: &Pair) -> bool
+    ensures { IsTrue result ↔ (a.now ≡ b.now) }
+{
+    a.left.as_slice() == b.left.as_slice() && a.right.as_slice() == b.right.as_slice()
 }
 
 /// Whether the first pair stands before the second.
