@@ -7,3 +7,4 @@ pub mod TailCounts
 pub mod SearchLemmas
 pub mod PlaceLemmas
 pub mod ListLemmas
+pub mod PlaceLaws

@@ -69,7 +69,7 @@ pub record AreAlternatives (levels a b : List ℕ) : Type 0 where
 same_len : (levels a b : List ℕ) → AreAlternatives levels a b → length a ≡ length b
 same_len levels a b h = h.first.len ∙ sym h.second.len
 
-exchanged : (levels a b : List ℕ) → AreAlternatives levels a b → AreAlternatives levels b a
+pub exchanged : (levels a b : List ℕ) → AreAlternatives levels a b → AreAlternatives levels b a
 exchanged levels a b h = record { first = h.second; second = h.first }
 
 fits_at : (levels a b : List ℕ) (k : ℕ) → AreAlternatives levels a b → k < length levels → FitsAt (get_or levels k 0) (get_or (cancelled a b) k 0) (get_or (cancelled b a) k 0)

@@ -6,5 +6,6 @@ pub use flips::Flip;
 
 mod classes;
 mod flips;
+pub mod laws;
 mod search;
 mod walks;
