@@ -42,7 +42,7 @@ listed_is_list criteria m = record {
   list = record {
     members = λ pair. (
       λ h. member_is_class criteria pair m.degree_from_one (Contains-among pair (listed_classes criteria.levels criteria.degree) h),
-      λ c. among-Contains pair (listed_classes criteria.levels criteria.degree) (class_is_member criteria pair c)
+      λ c. among-Contains pair (listed_classes criteria.levels criteria.degree) (class_is_member criteria pair c),
     );
     ordered = sorted-AllPairs ComesBefore (listed_classes criteria.levels criteria.degree) (listed_sorted criteria.levels criteria.degree (model_levels_fit criteria m).within);
   };

@@ -34,7 +34,7 @@ among-map_in f x (z ∷ xs) (inr h) = inr (among-map_in f x xs h)
 pub among-flat_map : {X Y : Type 0} (f : X → List Y) (y : Y) (xs : List X) → Among y (flat_map f xs) → (x : X) × Among x xs × Among y (f x)
 among-flat_map f y [] h = absurd h
 among-flat_map f y (x ∷ xs) h = elim (among-append y (f x) (flat_map f xs) h) [
-    inl a ↦ (x, inl refl, a)
+  | inl a ↦ (x, inl refl, a)
   | inr b ↦ let r = among-flat_map f y xs b in (r.0, inr r.1, r.2)
 ]
 
@@ -76,9 +76,9 @@ Sorted {X} R (x ∷ xs) = ((y : X) → Among y xs → R x y) × Sorted R xs
 pub sorted-append : {X : Type 0} (R : X → X → Type 0) (xs ys : List X) → Sorted R xs → Sorted R ys → ((x y : X) → Among x xs → Among y ys → R x y) → Sorted R (xs ++ ys)
 sorted-append R [] ys h k r = k
 sorted-append R (x ∷ xs) ys h k r = (
-    λ y m. elim (among-append y xs ys m) [ inl a ↦ h.0 y a | inr b ↦ r x y (inl refl) b ],
-    sorted-append R xs ys h.1 k (λ a b m n. r a b (inr m) n)
-  )
+  λ y m. elim (among-append y xs ys m) [ inl a ↦ h.0 y a | inr b ↦ r x y (inl refl) b ],
+  sorted-append R xs ys h.1 k (λ a b m n. r a b (inr m) n),
+)
 
 pub sorted-flat_map-range : {X : Type 0} (R : X → X → Type 0) (f : ℕ → List X) (a n : ℕ)
     → ((k : ℕ) → a ≤ k → k < a + n → Sorted R (f k))
@@ -89,17 +89,17 @@ sorted-flat_map-range R f a (suc n) h r =
     sorted-append R (f a) (flat_map f (range_with_len (a + 1) n)) (h a (omega arith) (omega arith))
     (sorted-flat_map-range R f (a + 1) n (λ k l m. h k (omega arith) (omega arith)) (λ i j x y l m o p q. r i j x y (omega arith) m (omega arith) p q))
     (λ x y p q.
-      let w = among-flat_map f y (range_with_len (a + 1) n) q in
-      let b = among-range w.0 (a + 1) n w.1 in
-      r a w.0 x y (omega arith) (omega (arith, b.0)) (omega (arith, b.1)) p w.2)
+    let w = among-flat_map f y (range_with_len (a + 1) n) q in
+    let b = among-range w.0 (a + 1) n w.1 in
+    r a w.0 x y (omega arith) (omega (arith, b.0)) (omega (arith, b.1)) p w.2)
 
 pub sorted-map : {X Y : Type 0} (R : X → X → Type 0) (S : Y → Y → Type 0) (f : X → Y) (xs : List X)
     → ((x y : X) → Among x xs → Among y xs → R x y → S (f x) (f y)) → Sorted R xs → Sorted S (map f xs)
 sorted-map R S f [] r h = tt
 sorted-map R S f (x ∷ xs) r h = (
-    λ y m. let w = among-map f y xs m in subst (S (f x)) w.2 (r x w.0 (inl refl) (inr w.1) (h.0 w.0 w.1)),
-    sorted-map R S f xs (λ a b m n. r a b (inr m) (inr n)) h.1
-  )
+  λ y m. let w = among-map f y xs m in subst (S (f x)) w.2 (r x w.0 (inl refl) (inr w.1) (h.0 w.0 w.1)),
+  sorted-map R S f xs (λ a b m n. r a b (inr m) (inr n)) h.1,
+)
 
 pub sorted-AllPairs : {X : Type 0} (R : X → X → Type 0) (xs : List X) → Sorted R xs → AllPairs R xs
 sorted-AllPairs R [] h i j d l m = absurd (omega arith)

@@ -85,7 +85,7 @@ pub each_pair_has_place_lem : EachPairHasPlace
 each_pair_has_place_lem listed a b l p q n =
     let h : AreAlternatives listed.criteria.levels a b = record { first = p; second = q } in
     elim (class_of_two listed.criteria a b h n) [
-        inl c ↦ has_place_at listed a b Kept l h c
+      | inl c ↦ has_place_at listed a b Kept l h c
       | inr c ↦ has_place_at listed a b Turned l h c
     ]
 

@@ -78,7 +78,7 @@ fits_at levels a b k h l =
     let la : k < length a = omega (arith, h.first.len) in
     let lb : k < length b = omega (arith, h.second.len) in
     elim (eq_or_ne (get_or a k 0) (get_or b k 0)) [
-        inl s ↦ inl (agrees a b k e la s, agrees b a k (sym e) lb (sym s))
+      | inl s ↦ inl (agrees a b k e la s, agrees b a k (sym e) lb (sym s))
       | inr n ↦
           let p = differs a b k e la n in
           let q = differs b a k (sym e) lb (λ s. n (sym s)) in
@@ -96,7 +96,7 @@ written_cancelled : (a b : List ℕ) → length a ≡ length b → IsCancelled (
 written_cancelled a b e k l s =
     let la : k < length a = omega (arith, length-cancelled a b e) in
     elim (eq_or_ne (get_or a k 0) (get_or b k 0)) [
-        inl t ↦ agrees a b k e la t
+      | inl t ↦ agrees a b k e la t
       | inr n ↦ absurd (n (sym (differs a b k e la n) ∙ s ∙ differs b a k (sym e) (omega arith) (λ t. n (sym t))))
     ]
 
@@ -109,7 +109,7 @@ written_higher : (a b : List ℕ) → length a ≡ length b → IsSomewhereHighe
 written_higher a b e (k, l, h) =
     let la : k < length a = omega (arith, length-cancelled a b e) in
     elim (eq_or_ne (get_or a k 0) (get_or b k 0)) [
-        inl t ↦ absurd (omega (arith, h, agrees a b k e la t, agrees b a k (sym e) (omega arith) (sym t)))
+      | inl t ↦ absurd (omega (arith, h, agrees a b k e la t, agrees b a k (sym e) (omega arith) (sym t)))
       | inr n ↦ (k, la, omega (arith, h, differs a b k e la n, differs b a k (sym e) (omega arith) (λ t. n (sym t))))
     ]
 
@@ -119,7 +119,7 @@ degree-cancelled [] [] e = refl
 degree-cancelled [] (y ∷ b) e = absurd (omega arith)
 degree-cancelled (x ∷ a) [] e = absurd (omega arith)
 degree-cancelled (x ∷ a) (y ∷ b) e = elim (eq_or_ne x y) [
-    inl s ↦
+  | inl s ↦
       let p : cond (eqb x y) 0 x ≡ 0 = ap (λ t. cond t 0 x) (eq-eqb x y s) in
       let q : cond (eqb y x) 0 y ≡ 0 = ap (λ t. cond t 0 y) (eq-eqb y x (sym s)) in
       degree-same (cond (eqb x y) 0 x) (cond (eqb y x) 0 y) (cancelled a b) (cancelled b a) (p ∙ sym q)
@@ -136,7 +136,7 @@ degree-turned [] [] e = refl
 degree-turned [] (y ∷ b) e = absurd (omega arith)
 degree-turned (x ∷ a) [] e = absurd (omega arith)
 degree-turned (x ∷ a) (y ∷ b) e = elim (eq_or_ne x y) [
-    inl s ↦ degree-same y x b a (sym s) ∙ degree-turned a b (omega arith) ∙ sym (degree-same x y a b s)
+  | inl s ↦ degree-same y x b a (sym s) ∙ degree-turned a b (omega arith) ∙ sym (degree-same x y a b s)
   | inr n ↦ degree-differs y x b a (λ s. n (sym s)) ∙ ap (λ d. 1 + d) (degree-turned a b (omega arith)) ∙ sym (degree-differs x y a b n)
 ]
 
@@ -159,31 +159,34 @@ first_of_two [] [] e = inl refl
 first_of_two [] (y ∷ b) e = absurd (omega arith)
 first_of_two (x ∷ a) [] e = absurd (omega arith)
 first_of_two (x ∷ a) (y ∷ b) e = elim (three x y) [
-    inl less ↦ inr (inr (0, omega arith, (λ j m. absurd (omega (arith, m)), less)))
+  | inl less ↦ inr (inr (0, omega arith, (λ j m. absurd (omega (arith, m)), less)))
   | inr more ↦ elim more [
-      inl same ↦ elim (first_of_two a b (omega arith)) [
-          inl s ↦ inl (ap₂ (λ z zs. z ∷ zs) same s)
-        | inr f ↦ elim f [ inl p ↦ inr (inl (first_cons x y a b same p)) | inr q ↦ inr (inr (first_cons y x b a (sym same) q)) ]
-      ]
-    | inr above ↦ inr (inl (0, omega arith, (λ j m. absurd (omega (arith, m)), above)))
+    | inl same ↦ elim (first_of_two a b (omega arith)) [
+      | inl s ↦ inl (ap₂ (λ z zs. z ∷ zs) same s)
+      | inr f ↦ elim f [ inl p ↦ inr (inl (first_cons x y a b same p)) | inr q ↦ inr (inr (first_cons y x b a (sym same) q)) ]
     ]
+    | inr above ↦ inr (inl (0, omega arith, (λ j m. absurd (omega (arith, m)), above)))
+  ]
 ]
 
 first_written : (a b : List ℕ) → length a ≡ length b → IsLeftFirst a b → IsLeftFirst (cancelled a b) (cancelled b a)
 first_written a b e (k, l, h) =
-    let n : get_or a k 0 ≢ get_or b k 0 = omega (arith, h.1) in
-    (k, omega (arith, length-cancelled a b e), (
-      λ j m. agrees a b j e (omega arith) (h.0 j m) ∙ sym (agrees b a j (sym e) (omega arith) (sym (h.0 j m))),
-      omega (arith, h.1, differs a b k e l n, differs b a k (sym e) (omega arith) (λ t. n (sym t)))
-    ))
+    let n : get_or a k 0 ≢ get_or b k 0 = omega (arith, h.1) in (
+      k,
+      omega (arith, length-cancelled a b e),
+      (
+        λ j m. agrees a b j e (omega arith) (h.0 j m) ∙ sym (agrees b a j (sym e) (omega arith) (sym (h.0 j m))),
+        omega (arith, h.1, differs a b k e l n, differs b a k (sym e) (omega arith) (λ t. n (sym t))),
+      ),
+    )
 
 first_not_both : (a b : List ℕ) → IsLeftFirst a b → IsLeftFirst b a → ⊥
 first_not_both a b (k, l, h) (j, m, g) = elim (three k j) [
-    inl less ↦ omega (arith, h.1, g.0 k less)
+  | inl less ↦ omega (arith, h.1, g.0 k less)
   | inr more ↦ elim more [
-      inl same ↦ omega (arith, h.1, subst (λ i. get_or a i 0 < get_or b i 0) (sym same) g.1)
+    | inl same ↦ omega (arith, h.1, subst (λ i. get_or a i 0 < get_or b i 0) (sym same) g.1)
     | inr above ↦ omega (arith, g.1, h.0 j above)
-    ]
+  ]
 ]
 
 -- ---- the class of two alternatives
@@ -197,7 +200,7 @@ written_class criteria a b h q first =
       left_first = first_written a b e first;
       undominated = (
         higher_filled criteria.levels (cancelled a b) (cancelled b a) (written criteria.levels (written_pair a b) fits) (higher_written a b e q.undominated.0),
-        higher_filled criteria.levels (cancelled b a) (cancelled a b) (written_turned criteria.levels (written_pair a b) fits) (higher_written b a (sym e) q.undominated.1)
+        higher_filled criteria.levels (cancelled b a) (cancelled a b) (written_turned criteria.levels (written_pair a b) fits) (higher_written b a (sym e) q.undominated.1),
       );
       within = omega (arith, degree-cancelled a b e, q.within);
     }
@@ -211,11 +214,11 @@ higher_not_same a b (k, l, h) e = omega (arith, h, ap (λ xs. get_or xs k 0) e)
 -- one of the two ways to write them is a class
 pub class_of_two : (criteria : Criteria) (a b : List ℕ) → AreAlternatives criteria.levels a b → NeedsQuestion criteria a b → IsClass criteria (written_pair a b) ⊎ IsClass criteria (written_pair b a)
 class_of_two criteria a b h q = elim (first_of_two a b (same_len criteria.levels a b h)) [
-    inl same ↦ absurd (higher_not_same a b q.undominated.0 same)
+  | inl same ↦ absurd (higher_not_same a b q.undominated.0 same)
   | inr f ↦ elim f [
-      inl first ↦ inl (written_class criteria a b h q first)
+    | inl first ↦ inl (written_class criteria a b h q first)
     | inr first ↦ inr (written_class criteria b a (exchanged criteria.levels a b h) (question_turned criteria a b h q) first)
-    ]
+  ]
 ]
 
 -- and not both
@@ -230,7 +233,7 @@ class_needs_question criteria a b h c =
     record {
       undominated = (
         written_higher a b e (higher_unfilled (cancelled a b) (cancelled b a) f c.undominated.0),
-        written_higher b a (sym e) (higher_unfilled (cancelled b a) (cancelled a b) (sym f) c.undominated.1)
+        written_higher b a (sym e) (higher_unfilled (cancelled b a) (cancelled a b) (sym f) c.undominated.1),
       );
       within = omega (arith, degree-cancelled a b e, c.within);
     }
@@ -238,7 +241,7 @@ class_needs_question criteria a b h c =
 -- ---- replicas
 replica_at : (a b : List ℕ) (k : ℕ) → length a ≡ length b → k < length a → AreReplicasAt (written_pair a b) (record { left = a; right = b }) k
 replica_at a b k e l = elim (eq_or_ne (get_or a k 0) (get_or b k 0)) [
-    inl s ↦ inl (agrees a b k e l s ∙ sym (agrees b a k (sym e) (omega arith) (sym s)), s)
+  | inl s ↦ inl (agrees a b k e l s ∙ sym (agrees b a k (sym e) (omega arith) (sym s)), s)
   | inr n ↦ inr (differs a b k e l n, differs b a k (sym e) (omega arith) (λ t. n (sym t)))
 ]
 
@@ -263,7 +266,7 @@ left_at levels a b pair k h fits zeros (inl both) l =
 left_at levels a b pair k h fits zeros (inr same) l =
     let e = same_len levels a b h in
     elim (eq_or_ne (get_or a k 0) (get_or b k 0)) [
-        inl s ↦
+      | inl s ↦
           let z = zeros k (omega (arith, fits.left_len)) (same.0 ∙ s ∙ sym same.1) in
           absurd (omega (arith, z, same.0, h.first.low k l))
       | inr n ↦ (same.0 ∙ sym (differs a b k e (omega (arith, h.first.len)) n), same.1 ∙ sym (differs b a k (sym e) (omega (arith, h.second.len)) (λ t. n (sym t))))
@@ -275,6 +278,6 @@ replica_is_written criteria a b pair h c r =
     let w = written_fits criteria.levels a b h in
     ap₂ (λ (x : List ℕ) (y : List ℕ). let p : Pair = record { left = x; right = y } in p)
     (ext_get_or 0 pair.left (cancelled a b) (c.fits.left_len ∙ sym w.left_len)
-      (λ k l. (left_at criteria.levels a b pair k h c.fits c.cancelled (r.places k (omega (arith, c.fits.left_len))) (omega (arith, c.fits.left_len))).0))
+    (λ k l. (left_at criteria.levels a b pair k h c.fits c.cancelled (r.places k (omega (arith, c.fits.left_len))) (omega (arith, c.fits.left_len))).0))
     (ext_get_or 0 pair.right (cancelled b a) (c.fits.right_len ∙ sym w.right_len)
-      (λ k l. (left_at criteria.levels a b pair k h c.fits c.cancelled (r.places k (omega (arith, c.fits.right_len))) (omega (arith, c.fits.right_len))).1))
+    (λ k l. (left_at criteria.levels a b pair k h c.fits c.cancelled (r.places k (omega (arith, c.fits.right_len))) (omega (arith, c.fits.right_len))).1))

@@ -36,7 +36,7 @@ at_most k m l = eq-or-lt_of_le (omega arith)
 not_before_middle : (pairs : List Pair) (pair middle_pair : Pair) (high middle k : ℕ) → AllPairs ComesBefore pairs → high ≤ length pairs → middle < high
     → get_or pairs middle pair ≡ middle_pair → ComesBefore middle_pair pair → k < middle + 1 → get_or pairs k pair ≢ pair
 not_before_middle pairs pair middle_pair high middle k ordered len m e before l is = elim (at_most k middle l) [
-    inl same ↦ not_before_itself pair (subst (λ p. ComesBefore p pair) (sym e ∙ ap (λ n. get_or pairs n pair) (sym same) ∙ is) before)
+  | inl same ↦ not_before_itself pair (subst (λ p. ComesBefore p pair) (sym e ∙ ap (λ n. get_or pairs n pair) (sym same) ∙ is) before)
   | inr less ↦ before_not_after middle_pair pair before (subst₂ ComesBefore is e (ordered k middle pair less (omega arith)))
 ]
 
@@ -78,12 +78,12 @@ drop-at xs place l = let e : place + 1 ≡ suc place = omega arith in rw e (drop
 pub order_at : (left right other_left other_right : List ℕ) (place : ℕ) → AreAsLong left right other_left other_right → place < length left
     → order_of (drop place left) (drop place right) (drop place other_left) (drop place other_right)
     ≡ ordering_then (nat_cmp (order_level (get_or left place 0)) (order_level (get_or other_left place 0)))
-      (ordering_then (nat_cmp (order_level (get_or right place 0)) (order_level (get_or other_right place 0)))
-      (order_of (drop (place + 1) left) (drop (place + 1) right) (drop (place + 1) other_left) (drop (place + 1) other_right)))
+    (ordering_then (nat_cmp (order_level (get_or right place 0)) (order_level (get_or other_right place 0)))
+    (order_of (drop (place + 1) left) (drop (place + 1) right) (drop (place + 1) other_left) (drop (place + 1) other_right)))
 order_at left right other_left other_right place len l =
     ap₂ (λ a b. order_of a b (drop place other_left) (drop place other_right)) (drop-at left place l) (drop-at right place (omega (arith, len.right_len)))
     ∙ ap₂ (λ a b. order_of (get_or left place 0 ∷ drop (place + 1) left) (get_or right place 0 ∷ drop (place + 1) right) a b)
-      (drop-at other_left place (omega (arith, len.other_left_len))) (drop-at other_right place (omega (arith, len.other_right_len)))
+    (drop-at other_left place (omega (arith, len.other_left_len))) (drop-at other_right place (omega (arith, len.other_right_len)))
 
 cmp_greater : (x y : ℕ) → y < x → nat_cmp x y ≡ Greater
 cmp_greater x y h = sym (nat_cmp_is x y Greater h)
@@ -100,15 +100,15 @@ eq_lt_gt (suc x) (suc y) = elim (eq_lt_gt x y) [ inl a ↦ inl (omega (arith, a)
 -- a test that decides an order at two numbers that differ
 pub decided : (x y : ℕ) (rest whole : Ordering) → x ≢ y → ordering_then (nat_cmp x y) rest ≡ whole → IsTrue (ltb x y) ↔ (whole ≡ Less)
 decided x y rest whole n e = (
-    λ t. sym e ∙ ap (λ o. ordering_then o rest) (cmp_less x y (ltb-true x y t)),
-    λ h. elim (eq_lt_gt x y) [
-        inl less ↦ lt-ltb x y less
-      | inr more ↦ elim more [
-          inl same ↦ absurd (n same)
-        | inr above ↦ absurd (greater_not_less (sym (ap (λ o. ordering_then o rest) (cmp_greater x y above)) ∙ e ∙ h))
-        ]
-      ]
-  )
+  λ t. sym e ∙ ap (λ o. ordering_then o rest) (cmp_less x y (ltb-true x y t)),
+  λ h. elim (eq_lt_gt x y) [
+    | inl less ↦ lt-ltb x y less
+    | inr more ↦ elim more [
+      | inl same ↦ absurd (n same)
+      | inr above ↦ absurd (greater_not_less (sym (ap (λ o. ordering_then o rest) (cmp_greater x y above)) ∙ e ∙ h))
+    ]
+  ],
+)
 
 -- equal numbers leave the order to what follows
 pub undecided : (x y : ℕ) (rest : Ordering) → x ≡ y → ordering_then (nat_cmp x y) rest ≡ rest
@@ -122,21 +122,21 @@ found_at pairs pair low l e =
 
 pub nowhere : (pairs : List Pair) (pair : Pair) (low high : ℕ) → IsNotOutside pairs pair low high → high ≤ low → (low < length pairs → get_or pairs low pair ≢ pair) → ¬ Contains pairs pair
 nowhere pairs pair low high h l n (k, m, e) = elim (eq_lt_gt k low) [
-    inl less ↦ h.below k less e
+  | inl less ↦ h.below k less e
   | inr more ↦ elim more [
-      inl same ↦ n (omega (arith, m, same)) (ap (λ j. get_or pairs j pair) (sym same) ∙ e)
+    | inl same ↦ n (omega (arith, m, same)) (ap (λ j. get_or pairs j pair) (sym same) ∙ e)
     | inr above ↦ h.above k (omega (arith, above, h.low_high)) m e
-    ]
+  ]
 ]
 
 -- a pair stands at one place alone
 same_place : (pairs : List Pair) (i j : ℕ) (pair : Pair) → AllPairs ComesBefore pairs → i < length pairs → j < length pairs → get_or pairs i pair ≡ pair → get_or pairs j pair ≡ pair → i ≡ j
 same_place pairs i j pair ordered a b e f = elim (eq_lt_gt i j) [
-    inl less ↦ absurd (not_before_itself pair (subst₂ ComesBefore e f (ordered i j pair less b)))
+  | inl less ↦ absurd (not_before_itself pair (subst₂ ComesBefore e f (ordered i j pair less b)))
   | inr more ↦ elim more [
-      inl same ↦ same
+    | inl same ↦ same
     | inr above ↦ absurd (not_before_itself pair (subst₂ ComesBefore f e (ordered j i pair above a)))
-    ]
+  ]
 ]
 
 within : (pairs : List Pair) (k : ℕ) (pair : Pair) → slice_get pairs k ≡ Some pair → k < length pairs
@@ -146,9 +146,13 @@ within (p ∷ pairs) (suc k) pair e = omega (arith, within pairs k pair e)
 
 pub stands_once : (pairs : List Pair) (i j : ℕ) (pair : Pair) → AllPairs ComesBefore pairs → StandsAt pairs i pair → StandsAt pairs j pair → i ≡ j
 stands_once pairs i j pair ordered s t =
-    omega (arith, s.positive, t.positive,
-    same_place pairs (i - 1) (j - 1) pair ordered (within pairs (i - 1) pair s.found) (within pairs (j - 1) pair t.found)
-    (get_or_from_slice_get pairs (i - 1) pair pair s.found) (get_or_from_slice_get pairs (j - 1) pair pair t.found))
+    omega (
+      arith,
+      s.positive,
+      t.positive,
+      same_place pairs (i - 1) (j - 1) pair ordered (within pairs (i - 1) pair s.found) (within pairs (j - 1) pair t.found)
+          (get_or_from_slice_get pairs (i - 1) pair pair s.found) (get_or_from_slice_get pairs (j - 1) pair pair t.found),
+    )
 
 pub stands_contains : (pairs : List Pair) (i : ℕ) (pair : Pair) → StandsAt pairs i pair → Contains pairs pair
 stands_contains pairs i pair s = (i - 1, within pairs (i - 1) pair s.found, get_or_from_slice_get pairs (i - 1) pair pair s.found)

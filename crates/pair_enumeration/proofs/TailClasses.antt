@@ -45,6 +45,7 @@ levels_cons n x y levels left right f z w = record {
         → (k : ℕ) → k < length (n ∷ levels) → FitsAt (get_or (n ∷ levels) k 0) (get_or (x ∷ left) k 0) (get_or (y ∷ right) k 0)
     places_cons n x y levels left right f h zero l = f
     places_cons n x y levels left right f h (suc k) l = h k (omega arith)
+
     cancelled_cons : (x y : ℕ) (left right : List ℕ) → (x ≡ y → x ≡ 0) → IsCancelled left right → IsCancelled (x ∷ left) (y ∷ right)
     cancelled_cons x y left right z h zero l e = z e
     cancelled_cons x y left right z h (suc k) l e = h k (omega arith) e
@@ -125,7 +126,7 @@ completes_next Same x y a b n h =
     let l = first_head x y a b n h.0 in
     (Left, after_same x y l, higher_tail y x b a (omega arith) h.1)
 completes_next Left x y a b n h = elim (lt_or_le y x) [
-    inl l ↦ (Left, after_left_left x y l, higher_tail y x b a (omega arith) h)
+  | inl l ↦ (Left, after_left_left x y l, higher_tail y x b a (omega arith) h)
   | inr l ↦ (Both, after_left_both x y (omega arith), tt)
 ]
 completes_next Both x y a b n h = (Both, after_both x y n, tt)
@@ -158,7 +159,7 @@ completes_back Same next x y a b h k =
     let later : IsSomewhereHigher b a = subst (λ s. Completes s a b) r.1 k in
     ((0, omega arith, (λ j m. absurd (omega (arith, m)), r.0)), higher_later y x b a later)
 completes_back Left next x y a b h k = elim (back_left x y next (ltb y x) (ltb x y) refl refl h) [
-    inl r ↦ (let later : IsSomewhereHigher b a = subst (λ s. Completes s a b) r.1 k in higher_later y x b a later)
+  | inl r ↦ (let later : IsSomewhereHigher b a = subst (λ s. Completes s a b) r.1 k in higher_later y x b a later)
   | inr r ↦ (0, omega arith, r.0)
 ]
 completes_back Both next x y a b h k = tt
@@ -185,18 +186,23 @@ to_tail (n ∷ levels) [] right stage w h = absurd (omega (arith, w.left_len))
 to_tail (n ∷ levels) (x ∷ left) [] stage w h = absurd (omega (arith, w.right_len))
 to_tail (n ∷ levels) (x ∷ left) (y ∷ right) stage w h =
     elim (eq_or_ne x y (eqb x y) refl) [
-        inl e ↦
+      | inl e ↦
           let z : x ≡ 0 = w.cancelled 0 (omega arith) e in
-          inl (ap₂ (λ (a : ℕ) (b : ℕ). (a, b)) z (sym e ∙ z),
+          inl (
+            ap₂ (λ (a : ℕ) (b : ℕ). (a, b)) z (sym e ∙ z),
             subst (λ d. IsTail levels d stage (zip left right)) (sym (degree-same x y left right e))
-            (to_tail levels left right stage (levels_tail n x y levels left right w) (completes_tail stage x y left right e h)))
+                (to_tail levels left right stage (levels_tail n x y levels left right w) (completes_tail stage x y left right e h)),
+          )
       | inr m ↦
           let s = completes_next stage x y left right m h in
           let d = degree-differs x y left right m in
           let e : degree (x ∷ left) (y ∷ right) - 1 ≡ degree left right = omega (arith, d) in
-          inr (s.0, differs_at n (degree (x ∷ left) (y ∷ right)) stage s.0 x y (omega (arith, d)) m (w.places 0 (omega arith)) s.1,
+          inr (
+            s.0,
+            differs_at n (degree (x ∷ left) (y ∷ right)) stage s.0 x y (omega (arith, d)) m (w.places 0 (omega arith)) s.1,
             subst (λ d. IsTail levels d s.0 (zip left right)) (sym e)
-            (to_tail levels left right s.0 (levels_tail n x y levels left right w) s.2))
+                (to_tail levels left right s.0 (levels_tail n x y levels left right w) s.2),
+          )
     ]
 
 -- ---- each tail is a class
@@ -278,7 +284,7 @@ tail_class criteria d t h l =
       left_first = r.completes.0;
       undominated = (
         higher_filled criteria.levels (lefts t) (rights t) (written criteria.levels (joined [] [] t) fits) (first_higher (lefts t) (rights t) r.completes.0),
-        higher_filled criteria.levels (rights t) (lefts t) (written_turned criteria.levels (joined [] [] t) fits) r.completes.1
+        higher_filled criteria.levels (rights t) (lefts t) (written_turned criteria.levels (joined [] [] t) fits) r.completes.1,
       );
       within = omega (arith, r.degree_of, l);
     }

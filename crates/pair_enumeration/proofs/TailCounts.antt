@@ -52,10 +52,10 @@ row-sum a b l (suc n) low =
     let P : ℕ → Type 0 = λ k. sum_by (apart a b l) (range_with_len 1 k) ≡ min k (l - 1) * a + (k - l) * b in
     subst P (sym e)
     (elim (compared (n + 1) l) [
-        inl below ↦ elim below [
-          inl c ↦ row-step a b l n 1 0 h (omega (arith, apart-below a b l (n + 1) c)) (omega (arith, c)) (omega (arith, c))
+      | inl below ↦ elim below [
+        | inl c ↦ row-step a b l n 1 0 h (omega (arith, apart-below a b l (n + 1) c)) (omega (arith, c)) (omega (arith, c))
         | inr c ↦ row-step a b l n 0 0 h (omega (arith, apart-same a b l (n + 1) (sym c))) (omega (arith, c)) (omega (arith, c))
-        ]
+      ]
       | inr c ↦ row-step a b l n 0 1 h (omega (arith, apart-above a b l (n + 1) c)) (omega (arith, c)) (omega (arith, c))
     ])
 
@@ -102,8 +102,13 @@ pairs-triangle (suc n) =
 sum-range-same : (f g : ℕ → ℕ) (a n : ℕ) → ((k : ℕ) → a ≤ k → k < a + n → f k ≡ g k) → sum_by f (range_with_len a n) ≡ sum_by g (range_with_len a n)
 sum-range-same f g a zero h = refl
 sum-range-same f g a (suc n) h =
-    omega (arith, sum_by-cons f a (range_with_len (a + 1) n), sum_by-cons g a (range_with_len (a + 1) n), h a (omega arith) (omega arith),
-    sum-range-same f g (a + 1) n (λ k l m. h k (omega arith) (omega arith)))
+    omega (
+      arith,
+      sum_by-cons f a (range_with_len (a + 1) n),
+      sum_by-cons g a (range_with_len (a + 1) n),
+      h a (omega arith) (omega arith),
+      sum-range-same f g (a + 1) n (λ k l m. h k (omega arith) (omega arith)),
+    )
 
 -- ---- how many tails begin with a difference
 option-length : (rest : Stage → List Tail) (o : Option Stage) (l r : ℕ) → length (option_map_or (λ next. with_levels l r (rest next)) o []) ≡ option_map_or (λ next. length (rest next)) o 0
@@ -133,10 +138,10 @@ left-apart false false count = refl
 
 both-apart : (l r : ℕ) (count : Stage → ℕ) → option_map_or count (cond (eqb l r) None (Some Both)) 0 ≡ apart (count Both) (count Both) l r
 both-apart l r count = elim (compared l r) [
-    inl h ↦ elim h [
-      inl c ↦ ap (λ t. option_map_or count (cond t None (Some Both)) 0) (ne_eqb l r (λ e. omega (arith, c, e))) ∙ sym (apart-above (count Both) (count Both) l r c)
+  | inl h ↦ elim h [
+    | inl c ↦ ap (λ t. option_map_or count (cond t None (Some Both)) 0) (ne_eqb l r (λ e. omega (arith, c, e))) ∙ sym (apart-above (count Both) (count Both) l r c)
     | inr c ↦ ap (λ t. option_map_or count (cond t None (Some Both)) 0) (eq-eqb l r c) ∙ sym (apart-same (count Both) (count Both) l r c)
-    ]
+  ]
   | inr c ↦ ap (λ t. option_map_or count (cond t None (Some Both)) 0) (ne_eqb l r (λ e. omega (arith, c, e))) ∙ sym (apart-below (count Both) (count Both) l r c)
 ]
 
@@ -150,7 +155,7 @@ row-length : (rest : Stage → List Tail) (stage : Stage) (n l : ℕ) → 1 ≤ 
 row-length rest stage n l low =
     length-flat_map (option_tails rest stage l) (range_with_len 1 n)
     ∙ sum-range-same (λ r. length (option_tails rest stage l r)) (apart (below_count (λ s. length (rest s)) stage) (above_count (λ s. length (rest s)) stage) l) 1 n
-      (λ r a b. option-length rest (stage_after stage l r) l r ∙ stage-apart stage l r (λ s. length (rest s)))
+    (λ r a b. option-length rest (stage_after stage l r) l r ∙ stage-apart stage l r (λ s. length (rest s)))
     ∙ row-sum (below_count (λ s. length (rest s)) stage) (above_count (λ s. length (rest s)) stage) l n low
 
 summed : (t u p a b : ℕ) → p ≡ t → u ≡ t → t * a + u * b ≡ p * (a + b)
@@ -161,7 +166,7 @@ differing-length : (rest : Stage → List Tail) (stage : Stage) (n : ℕ)
 differing-length rest stage n =
     length-flat_map (row_tails rest stage n) (range_with_len 1 n)
     ∙ sum-range-same (λ l. length (row_tails rest stage n l)) (λ l. min n (l - 1) * below_count (λ s. length (rest s)) stage + (n - l) * above_count (λ s. length (rest s)) stage) 1 n
-      (λ l a b. row-length rest stage n l a)
+    (λ l a b. row-length rest stage n l a)
     ∙ rows-sum (below_count (λ s. length (rest s)) stage) (above_count (λ s. length (rest s)) stage) n n (omega arith)
     ∙ summed (triangle n) (rising n n) (n * (n - 1) / 2) (below_count (λ s. length (rest s)) stage) (above_count (λ s. length (rest s)) stage) (pairs-triangle n) (rising-all n)
 
@@ -217,4 +222,4 @@ unfolding class_count
 length-listed levels limit =
     length-flat_map (λ d. map (joined [] []) (tails levels d Same)) (range_with_len 2 (limit - 1))
     ∙ sum-range-same (λ d. length (map (joined [] []) (tails levels d Same))) (classes_of_degree levels) 2 (limit - 1)
-      (λ d a b. length-map (tails levels d Same) (joined [] []) ∙ tails-length levels d Same)
+    (λ d a b. length-map (tails levels d Same) (joined [] []) ∙ tails-length levels d Same)

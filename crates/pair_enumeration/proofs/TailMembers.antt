@@ -54,7 +54,7 @@ tails_are (n ∷ levels) zero stage t h =
     subst (IsTail (n ∷ levels) 0 stage) a.2 (inl (refl, tails_are levels 0 stage a.0 a.1))
 tails_are (n ∷ levels) (suc d) stage t h =
     elim (among-append t (differing_tails (λ next. tails levels d next) stage n) (with_levels 0 0 (tails levels (suc d) stage)) h) [
-        inl a ↦
+      | inl a ↦
           let f = differing_found (λ next. tails levels d next) stage n t a in
           let e : suc d - 1 ≡ d = omega arith in
           subst (IsTail (n ∷ levels) (suc d) stage) f.4.2
@@ -98,4 +98,3 @@ tails_all (n ∷ levels) (suc d) stage (p ∷ t) (inr h) =
     let e : suc d - 1 ≡ d = omega arith in
     among-append_left (p ∷ t) (differing_tails (λ next. tails levels d next) stage n) (with_levels 0 0 (tails levels (suc d) stage))
     (differing_lists (λ next. tails levels d next) stage h.0 n (suc d) p t h.1 (tails_all levels d h.0 t (subst (λ k. IsTail levels k h.0 t) e h.2)))
-

@@ -50,7 +50,7 @@ differing_precede l r l' r' t u a b c d (inr h) =
 -- a difference stands before the cancelled criterion
 cancelled_last : (l r : ℕ) (t u : Tail) → 1 ≤ l → l ≤ 25 → 1 ≤ r → r ≤ 25 → l ≢ r → Precedes ((l, r) ∷ t) ((0, 0) ∷ u)
 cancelled_last l r t u a b c d m = elim (eq-or-lt_of_le b) [
-    inl e ↦ subst (λ k. slice_cmp nat_cmp (order_level l ∷ order_level r ∷ codes t) (k ∷ 25 ∷ codes u) ≡ Less) (level_is l a ∙ e)
+  | inl e ↦ subst (λ k. slice_cmp nat_cmp (order_level l ∷ order_level r ∷ codes t) (k ∷ 25 ∷ codes u) ≡ Less) (level_is l a ∙ e)
       (precedes_right (order_level l) (order_level r) 25 (codes t) (codes u) (omega (arith, level_is r c, e, m)))
   | inr h ↦ precedes_left (order_level l) (order_level r) 25 25 (codes t) (codes u) (omega (arith, level_is l a, h))
 ]
@@ -80,18 +80,18 @@ row_sorted rest stage n l low h =
     sorted-flat_map-range Precedes (option_tails rest stage l) 1 n
     (λ r a b. option_sorted rest (stage_after stage l r) l r h)
     (λ r s t u a b c m k.
-      let x = option_head rest (stage_after stage l r) l r t m in
-      let y = option_head rest (stage_after stage l s) l s u k in
-      subst₂ Precedes x.1 y.1 (differing_precede l r l s x.0 y.0 low a low (omega arith) (inr (refl, b))))
+    let x = option_head rest (stage_after stage l r) l r t m in
+    let y = option_head rest (stage_after stage l s) l s u k in
+    subst₂ Precedes x.1 y.1 (differing_precede l r l s x.0 y.0 low a low (omega arith) (inr (refl, b))))
 
 differing_sorted : (rest : Stage → List Tail) (stage : Stage) (n : ℕ) → ((next : Stage) → Sorted Precedes (rest next)) → Sorted Precedes (differing_tails rest stage n)
 differing_sorted rest stage n h =
     sorted-flat_map-range Precedes (row_tails rest stage n) 1 n
     (λ l a b. row_sorted rest stage n l a h)
     (λ l m t u a b c p q.
-      let x = row_head rest stage n l t p in
-      let y = row_head rest stage n m u q in
-      subst₂ Precedes x.2.1 y.2.1 (differing_precede l x.0 m y.0 x.2.0 y.2.0 a x.1 (omega arith) y.1 (inl b)))
+    let x = row_head rest stage n l t p in
+    let y = row_head rest stage n m u q in
+    subst₂ Precedes x.2.1 y.2.1 (differing_precede l x.0 m y.0 x.2.0 y.2.0 a x.1 (omega arith) y.1 (inl b)))
 
 pub tails_sorted : (levels : List ℕ) (d : ℕ) (stage : Stage) → All (λ n. n ≤ 25) levels → Sorted Precedes (tails levels d stage)
 tails_sorted [] zero Same few = tt
@@ -104,11 +104,11 @@ tails_sorted (n ∷ levels) (suc d) stage few =
     (differing_sorted (λ next. tails levels d next) stage n (λ next. tails_sorted levels d next (λ k d l. few (suc k) d (omega arith))))
     (with_levels_sorted 0 0 (tails levels (suc d) stage) (tails_sorted levels (suc d) stage (λ k d l. few (suc k) d (omega arith))))
     (λ t u m k.
-      let x = differing_found (λ next. tails levels d next) stage n t m in
-      let y = among-map (λ v. (0, 0) ∷ v) u (tails levels (suc d) stage) k in
-      let most = few 0 0 (omega arith) in
-      subst₂ Precedes x.4.2 y.2
-      (cancelled_last x.0 x.1 x.4.0 y.0 x.3.left_low (omega (arith, x.3.left_high, most)) x.3.right_low (omega (arith, x.3.right_high, most)) (after_differs stage x.2 x.0 x.1 x.3.after)))
+    let x = differing_found (λ next. tails levels d next) stage n t m in
+    let y = among-map (λ v. (0, 0) ∷ v) u (tails levels (suc d) stage) k in
+    let most = few 0 0 (omega arith) in
+    subst₂ Precedes x.4.2 y.2
+    (cancelled_last x.0 x.1 x.4.0 y.0 x.3.left_low (omega (arith, x.3.left_high, most)) x.3.right_low (omega (arith, x.3.right_high, most)) (after_differs stage x.2 x.0 x.1 x.3.after)))
 
 -- ---- and so are the classes
 key_is : (levels : List ℕ) (d : ℕ) (t : Tail) → Among t (tails levels d Same) → order_key (joined [] [] t) ≡ d ∷ codes t
@@ -132,6 +132,6 @@ listed_sorted levels limit few =
     sorted-flat_map-range ComesBefore (λ d. map (joined [] []) (tails levels d Same)) 2 (limit - 1)
     (λ d a b. sorted-map Precedes ComesBefore (joined [] []) (tails levels d Same) (precedes_comes_before levels d) (tails_sorted levels d Same few))
     (λ d e p q a b c m k.
-      let x = among-map (joined [] []) p (tails levels d Same) m in
-      let y = among-map (joined [] []) q (tails levels e Same) k in
-      subst₂ ComesBefore x.2 y.2 (degree_comes_before levels d e x.0 y.0 x.1 y.1 b))
+    let x = among-map (joined [] []) p (tails levels d Same) m in
+    let y = among-map (joined [] []) q (tails levels e Same) k in
+    subst₂ ComesBefore x.2 y.2 (degree_comes_before levels d e x.0 y.0 x.1 y.1 b))

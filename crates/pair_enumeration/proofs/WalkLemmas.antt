@@ -123,26 +123,32 @@ pub row_more : (counts : List ℕ) (walk next : Walk) (left right : ℕ) (stage 
     → IsNext walk next left right → next.rest ≡ walk.rest - 1 → next.stage ≡ stage
     → new ≡ now ++ found_from counts next
     → ListsRow counts walk left (right + 1) before new
-row_more counts walk next left right stage before now new l h s e r k g = record { items =
-  grown walk before now new _ (option_tails (λ next. tails (drop (walk.place + 1) counts) (walk.rest - 1) next) walk.stage left right) _ h.items
-  (g ∙ ap (λ x. now ++ x) (found_next counts walk next left right e ∙ ap₂ (λ a b. pairs_from walk (with_levels left right (tails (drop (walk.place + 1) counts) a b))) r k
-    ∙ ap (λ o. pairs_from walk (option_map_or (λ next. with_levels left right (tails (drop (walk.place + 1) counts) (walk.rest - 1) next)) o [])) (sym s)))
-  (flat_map-up_to (option_tails (λ next. tails (drop (walk.place + 1) counts) (walk.rest - 1) next) walk.stage left) right l) }
+row_more counts walk next left right stage before now new l h s e r k g = record {
+  items =
+      grown walk before now new _ (option_tails (λ next. tails (drop (walk.place + 1) counts) (walk.rest - 1) next) walk.stage left right) _ h.items
+      (g ∙ ap (λ x. now ++ x) (found_next counts walk next left right e ∙ ap₂ (λ a b. pairs_from walk (with_levels left right (tails (drop (walk.place + 1) counts) a b))) r k
+      ∙ ap (λ o. pairs_from walk (option_map_or (λ next. with_levels left right (tails (drop (walk.place + 1) counts) (walk.rest - 1) next)) o [])) (sym s)))
+      (flat_map-up_to (option_tails (λ next. tails (drop (walk.place + 1) counts) (walk.rest - 1) next) walk.stage left) right l);
+}
 
 pub row_same : (counts : List ℕ) (walk : Walk) (left right : ℕ) (before now : List Pair) → 1 ≤ right
     → ListsRow counts walk left right before now → stage_after walk.stage left right ≡ None
     → ListsRow counts walk left (right + 1) before now
-row_same counts walk left right before now l h s = record { items =
-  grown walk before now now _ (option_tails (λ next. tails (drop (walk.place + 1) counts) (walk.rest - 1) next) walk.stage left right) _ h.items
-  (sym (append-nil now) ∙ ap (λ o. now ++ pairs_from walk (option_map_or (λ next. with_levels left right (tails (drop (walk.place + 1) counts) (walk.rest - 1) next)) o [])) (sym s))
-  (flat_map-up_to (option_tails (λ next. tails (drop (walk.place + 1) counts) (walk.rest - 1) next) walk.stage left) right l) }
+row_same counts walk left right before now l h s = record {
+  items =
+      grown walk before now now _ (option_tails (λ next. tails (drop (walk.place + 1) counts) (walk.rest - 1) next) walk.stage left right) _ h.items
+      (sym (append-nil now) ∙ ap (λ o. now ++ pairs_from walk (option_map_or (λ next. with_levels left right (tails (drop (walk.place + 1) counts) (walk.rest - 1) next)) o [])) (sym s))
+      (flat_map-up_to (option_tails (λ next. tails (drop (walk.place + 1) counts) (walk.rest - 1) next) walk.stage left) right l);
+}
 
 pub levels_more : (counts : List ℕ) (walk : Walk) (level : ℕ) (before now new : List Pair) → 1 ≤ level
     → ListsLevels counts walk level before now → new ≡ now ++ found_with counts walk (slice_index counts walk.place) level
     → ListsLevels counts walk (level + 1) before new
-levels_more counts walk level before now new l h g = record { items =
-  grown walk before now new _ (row_tails (λ next. tails (drop (walk.place + 1) counts) (walk.rest - 1) next) walk.stage (slice_index counts walk.place) level) _ h.items g
-  (flat_map-up_to (row_tails (λ next. tails (drop (walk.place + 1) counts) (walk.rest - 1) next) walk.stage (slice_index counts walk.place)) level l) }
+levels_more counts walk level before now new l h g = record {
+  items =
+      grown walk before now new _ (row_tails (λ next. tails (drop (walk.place + 1) counts) (walk.rest - 1) next) walk.stage (slice_index counts walk.place) level) _ h.items g
+      (flat_map-up_to (row_tails (λ next. tails (drop (walk.place + 1) counts) (walk.rest - 1) next) walk.stage (slice_index counts walk.place)) level l);
+}
 
 -- ---- the end of the walk
 pub nothing_found : (counts : List ℕ) (walk : Walk) (now : List Pair) → length counts - walk.place < walk.rest → now ≡ now ++ found_from counts walk
@@ -159,8 +165,8 @@ pub cancelled_found : (counts : List ℕ) (walk next : Walk) (before new : List 
 cancelled_found counts walk next before new l z e r k g =
     g ∙ ap (λ x. before ++ x)
     (found_next counts walk next 0 0 e
-     ∙ ap₂ (λ a b. pairs_from walk (with_levels 0 0 (tails (drop (walk.place + 1) counts) a b))) (r ∙ z) k
-     ∙ ap₂ (λ xs d. pairs_from walk (tails xs d walk.stage)) (sym (drop-next counts walk.place l)) (sym z))
+    ∙ ap₂ (λ a b. pairs_from walk (with_levels 0 0 (tails (drop (walk.place + 1) counts) a b))) (r ∙ z) k
+    ∙ ap₂ (λ xs d. pairs_from walk (tails xs d walk.stage)) (sym (drop-next counts walk.place l)) (sym z))
 
 pub levels_done : (counts : List ℕ) (walk next : Walk) (level : ℕ) (before now new : List Pair) → walk.place < length counts → 0 < walk.rest
     → ListsLevels counts walk level before now → level ≡ slice_index counts walk.place + 1
@@ -187,9 +193,11 @@ degrees_more counts degree start now new l h p r k g =
     let e : degree + 1 - 2 ≡ degree - 2 + 1 = omega arith in
     let i : 2 + (degree - 2) ≡ degree = omega arith in
     let found : found_from counts start ≡ f degree =
-      ap (λ n. map (joined (take n start.left) (take n start.right)) (tails (drop n counts) start.rest start.stage)) p
-      ∙ ap₂ (λ d stage. map (joined [] []) (tails counts d stage)) r k in
-    record { items =
-      g ∙ ap₂ (λ a b. a ++ b) h.items (found ∙ ap f (sym i))
-      ∙ sym (flat_map-range-more f 2 (degree - 2))
-      ∙ ap (λ n. flat_map f (range_with_len 2 n)) (sym e) }
+    ap (λ n. map (joined (take n start.left) (take n start.right)) (tails (drop n counts) start.rest start.stage)) p
+    ∙ ap₂ (λ d stage. map (joined [] []) (tails counts d stage)) r k in
+    record {
+      items =
+          g ∙ ap₂ (λ a b. a ++ b) h.items (found ∙ ap f (sym i))
+          ∙ sym (flat_map-range-more f 2 (degree - 2))
+          ∙ ap (λ n. flat_map f (range_with_len 2 n)) (sym e);
+    }

@@ -37,7 +37,12 @@ impl Classes {
     {
         let counts = level_counts(model);
         let limit = usize::from(model.degree());
-        let pairs = list_classes(alloc, counts.as_slice(), limit, model.class_count() as usize)?;
+        let pairs = list_classes(
+            alloc,
+            counts.as_slice(),
+            limit,
+            model.class_count() as usize,
+        )?;
         Ok(Classes {
             model: *model,
             pairs,
@@ -111,3 +116,6 @@ fn level_counts(model: &Model) -> Tuple
     }
     Tuple::of(&counts[..count])
 }
+
+#[cfg(test)]
+mod tests;

@@ -4,11 +4,9 @@ ghost use Rattle.pair_enumeration.specs.Places.{EachPairHasPlace, EachPairHasOne
 /// Two alternatives that need a question have a place and a flip in the class list.
 pub fn each_pair_has_place()
     ensures { EachPairHasPlace }
-{
-}
+{}
 
 /// And they have one place and one flip alone.
 pub fn each_pair_has_one_place()
     ensures { EachPairHasOnePlace }
-{
-}
+{}

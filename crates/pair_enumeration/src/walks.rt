@@ -136,12 +136,7 @@ fn extend(classes: &mut Vec<Pair>, counts: &[u8], walk: Walk) -> Result<(), NoMe
 
 /// Appends those with this level on the left side of the next criterion, and another on its right side.
 #[cycle(walk)]
-fn extend_with(
-    classes: &mut Vec<Pair>,
-    counts: &[u8],
-    walk: Walk,
-    left: u8,
-) -> Result<(), NoMemory>
+fn extend_with(classes: &mut Vec<Pair>, counts: &[u8], walk: Walk, left: u8) -> Result<(), NoMemory>
     requires walk { IsWalk counts.now walk }
     requires more { walk.place < length counts.now }
     requires some { 1 ≤ walk.rest }
@@ -151,14 +146,23 @@ fn extend_with(
 {
     for right in 1..counts[walk.place] + 1 {
         if let Some(stage) = walk.stage.after(left, right) {
-            extend(classes, counts, walk.after(left, right, walk.rest - 1, stage))?;
+            extend(
+                classes,
+                counts,
+                walk.after(left, right, walk.rest - 1, stage),
+            )?;
         }
     }
     Ok(())
 }
 
 /// All classes with a degree up to the limit over criteria of these level counts, in order.
-pub(crate) fn list_classes(alloc: Global, counts: &[u8], limit: usize, room: usize) -> Result<Vec<Pair>, NoMemory>
+pub(crate) fn list_classes(
+    alloc: Global,
+    counts: &[u8],
+    limit: usize,
+    room: usize,
+) -> Result<Vec<Pair>, NoMemory>
     requires some { 1 ≤ length counts.now }
     requires most { length counts.now ≤ 24 }
     requires levels { All (λ n. n ≤ 25) counts.now }

@@ -23,12 +23,12 @@ returns-then-is_same-clause-found c =
 
 pub returns-else-low-pairs-clause-some : goal.returns-else-low-pairs-clause-some
 returns-else-low-pairs-clause-some c = (
-    λ t. absurd (true≢false (sym t)),
-    λ h. absurd (nowhere c.args.pairs.now c.args.pair.now c.loop-low.low c.loop-low.high c.loop-low.invariant c.loop-low-test.false
+  λ t. absurd (true≢false (sym t)),
+  λ h. absurd (nowhere c.args.pairs.now c.args.pair.now c.loop-low.low c.loop-low.high c.loop-low.invariant c.loop-low-test.false
       (λ l e. elim c.else-low-pairs.branch [
-          else-low-pairs-via-then-low-pairs+else-is_same w ↦
+        | else-low-pairs-via-then-low-pairs+else-is_same w ↦
             true≢false (sym (w.if-is_same.ensures.1 (w.index-pairs-low.is ∙ get_or_default c.args.pairs.now c.loop-low.low w.index-pairs-low.result c.args.pair.now l ∙ e)))
         | else-low-pairs-via-else-low-pairs w ↦ omega (arith, w.if-low-pairs.false, l)
       ])
-      h)
-  )
+      h),
+)

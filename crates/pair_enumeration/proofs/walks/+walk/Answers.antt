@@ -22,7 +22,7 @@ extend-returns t c =
     let next : IsNext c.args.walk c.after.result 0 0 = record { place = c.after.ensures.place; left_is = c.after.ensures.left; right_is = c.after.ensures.right } in
     let more : c.args.walk.place < length c.args.counts.now = omega arith in
     elim c.if-walk-gt0.branch [
-        extend-then-walk-gt0+else-loop-level-test w ↦ on_ok c.extend.result
+      | extend-then-walk-gt0+else-loop-level-test w ↦ on_ok c.extend.result
           (λ g. levels_done c.args.counts.now c.args.walk c.after.result w.loop-level.level c.args.classes.now.items w.loop-level.classes.items c.extend.new.classes.items more (omega arith) w.loop-level.invariant (omega arith) next c.after.ensures.rest c.after.ensures.stage (g ∙ ap (λ v. v.items ++ found_from c.args.counts.now c.after.result) w.classes-is))
           c.extend.ensures
       | extend-else-walk-gt0 w ↦ on_ok c.extend.result
@@ -32,7 +32,7 @@ extend-returns t c =
 
 pub extend_with-loop-right-preserved : goal.extend_with-loop-right-preserved
 extend_with-loop-right-preserved t c = elim c.match-after.branch [
-    extend_with-in-Some+in_ok-extend w ↦
+  | extend_with-in-Some+in_ok-extend w ↦
       let next : IsNext c.args.walk w.after-in-Some.result c.args.left c.loop-right.right = record { place = w.after-in-Some.ensures.place; left_is = w.after-in-Some.ensures.left; right_is = w.after-in-Some.ensures.right } in
       row_more c.args.counts.now c.args.walk w.after-in-Some.result c.args.left c.loop-right.right w.in-Some.stage c.args.classes.now.items c.loop-right.classes.items c.match-after.classes.items
       (omega arith) c.loop-right.invariant (sym w.in-Some.ensures) next w.after-in-Some.ensures.rest w.after-in-Some.ensures.stage

@@ -8,6 +8,8 @@ invariant_of-result c =
     (c.as_slice.ensures.value ∙ c.level_counts-counts.ensures) (c.from-limit.ensures ∙ c.degree.ensures.value) c.in_ok-pairs.ensures
 
 pub returns : goal.returns
-returns c = (refl,
-    listed_by c.args.model.now c.as_slice.result.now c.from-limit.result c.in_ok-pairs.pairs.items c.degree.ensures.model
-    (c.as_slice.ensures.value ∙ c.level_counts-counts.ensures) (c.from-limit.ensures ∙ c.degree.ensures.value) c.in_ok-pairs.ensures)
+returns c = (
+  refl,
+  listed_by c.args.model.now c.as_slice.result.now c.from-limit.result c.in_ok-pairs.pairs.items c.degree.ensures.model
+      (c.as_slice.ensures.value ∙ c.level_counts-counts.ensures) (c.from-limit.ensures ∙ c.degree.ensures.value) c.in_ok-pairs.ensures,
+)
