@@ -1,5 +1,5 @@
 -- Elements and order of lists that are put together.
-use Rattle.std.proofs.Common.{◌≡◌, ◌⊎◌, inl, inr, ℕ, zero, suc, ◌+◌, ◌≤◌, ◌<◌, List, [], ◌∷◌, ◌++◌, length, map, flat_map, get_or, Contains, AllPairs, refl, ap, sym, ◌∙◌, subst, arith, eq-or-lt_of_le}
+use Rattle.std.proofs.Common.{◌≡◌, ◌⊎◌, inl, inr, ℕ, zero, suc, ◌+◌, ◌≤◌, ◌<◌, List, [], ◌∷◌, ◌++◌, length, map, flat_map, get_or, Contains, AllPairs, refl, ap, sym, subst, arith, eq-or-lt_of_le}
 use Rattle.std.specs.List.{range_with_len}
 
 -- x is an element of the list

@@ -1,7 +1,6 @@
 -- Two alternatives that need a question have one place and one flip.
-use Rattle.std.proofs.Common.{◌≡◌, ◌≢◌, ◌⊎◌, inl, inr, ℕ, List, Option, Some, None, IsSome, refl, ap, ap₂, sym, ◌∙◌, subst, true≢false}
+use Rattle.std.proofs.Common.{◌≡◌, inl, inr, ℕ, List, Option, Some, None, IsSome, refl, ap₂, sym, subst, true≢false}
 use Rattle.criteria_model.specs.declared.pairs.Pair.{Pair}
-use Rattle.criteria_model.specs.Alternatives.{IsAlternative}
 use Rattle.criteria_model.specs.Classes.{IsClass}
 use Rattle.criteria_model.specs.Pairs.{AreReplicas}
 use Rattle.pair_enumeration.specs.declared.flips.Flip.{Flip}

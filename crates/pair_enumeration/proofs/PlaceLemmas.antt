@@ -1,9 +1,9 @@
 -- Two alternatives, their written pair and its class.
-use Rattle.std.proofs.Common.{◌≡◌, ◌≢◌, ◌⊎◌, inl, inr, ℕ, zero, suc, ◌+◌, ◌-◌, ◌≤◌, ◌<◌, max, List, [], ◌∷◌, length, get_or, cond, eqb, true, false, Bool, refl, ap, ap₂, sym, ◌∙◌, subst, subst₂, arith, eq-eqb, ne_eqb, eqb-true, ext_get_or, All}
+use Rattle.std.proofs.Common.{◌≡◌, ◌≢◌, ◌⊎◌, inl, inr, ℕ, zero, suc, ◌+◌, ◌≤◌, ◌<◌, List, [], ◌∷◌, length, get_or, cond, eqb, true, false, Bool, refl, ap, ap₂, sym, ◌∙◌, subst, arith, eq-eqb, ne_eqb, eqb-true, ext_get_or}
 use Rattle.criteria_model.specs.declared.pairs.Pair.{Pair}
 use Rattle.criteria_model.specs.Lists.{IsTuple}
 use Rattle.criteria_model.specs.Criteria.{Criteria}
-use Rattle.criteria_model.specs.Alternatives.{IsAlternative, IsSomewhereHigher, IsUndominated, degree}
+use Rattle.criteria_model.specs.Alternatives.{IsAlternative, IsSomewhereHigher, degree}
 use Rattle.criteria_model.specs.Pairs.{FitsAt, IsFit, IsCancelled, IsLeftFirst, AreReplicas, AreReplicasAt}
 use Rattle.criteria_model.specs.Classes.{IsClass}
 use Rattle.criteria_model.proofs.DominanceLemmas.{written, written_turned, higher_filled, higher_unfilled}

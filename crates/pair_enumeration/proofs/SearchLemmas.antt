@@ -1,13 +1,13 @@
 -- The search for a pair in the ordered list of classes.
-use Rattle.std.proofs.Common.{◌≡◌, ◌≢◌, ◌⊎◌, ◌↔◌, inl, inr, ℕ, zero, suc, ◌+◌, ◌-◌, ◌/◌, ◌≤◌, ◌<◌, List, [], ◌∷◌, length, take, drop, zip, get_or, cond, ltb, true, false, Bool, IsTrue, AllPairs, refl, ap, ap₂, sym, ◌∙◌, subst, subst₂, arith, lt-ltb, le-ltb, ltb-true, nat_cmp, Ordering, Less, Equal, Greater, drop-cons, Contains, slice_get, Some, None, eq-or-lt_of_le}
+use Rattle.std.proofs.Common.{◌≡◌, ◌≢◌, ◌⊎◌, ◌↔◌, inl, inr, ℕ, zero, suc, ◌+◌, ◌-◌, ◌≤◌, ◌<◌, List, [], ◌∷◌, length, drop, zip, get_or, ltb, IsTrue, AllPairs, refl, ap, ap₂, sym, ◌∙◌, subst, subst₂, arith, lt-ltb, ltb-true, nat_cmp, Ordering, Less, Equal, Greater, drop-cons, Contains, slice_get, Some, eq-or-lt_of_le}
 use Rattle.std.specs.Ordering.{ordering_then, ordering_reverse}
-use Rattle.std.specs.Cmp.{nat_cmp_is, IsTotalOrder}
+use Rattle.std.specs.Cmp.{nat_cmp_is}
 use Rattle.std.specs.Cmp.Lexicographic.{slice_cmp, nat_list_cmp_total}
 use Rattle.criteria_model.specs.declared.pairs.Pair.{Pair}
 use Rattle.criteria_model.specs.Classes.{order_level, order_key, ComesBefore}
 use Rattle.std.proofs.lemmas.Option.{slice_get-get_or, get_or_from_slice_get}
 use Rattle.pair_enumeration.specs.Places.{StandsAt}
-use Rattle.pair_enumeration.specs.Walks.{codes, Precedes}
+use Rattle.pair_enumeration.specs.Walks.{codes}
 use Rattle.pair_enumeration.proofs.TailOrder.{cmp_less, cmp_same}
 
 -- ---- the order is strict

@@ -1,5 +1,5 @@
 -- The tails over all criteria are the classes.
-use Rattle.std.proofs.Common.{◌≡◌, ◌≢◌, ◌⊎◌, inl, inr, ℕ, zero, suc, ◌+◌, ◌-◌, ◌≤◌, ◌<◌, List, [], ◌∷◌, length, map, zip, get_or, cond, not, ◌==◌, eqb, true, false, Bool, ltb, Option, Some, None, refl, ap, ap₂, sym, ◌∙◌, subst, arith, eq-eqb, ne_eqb, eqb-true, lt-ltb, le-ltb, ltb-true, ltb-false}
+use Rattle.std.proofs.Common.{◌≡◌, ◌≢◌, ◌⊎◌, inl, inr, ℕ, zero, suc, ◌+◌, ◌-◌, ◌≤◌, ◌<◌, List, [], ◌∷◌, length, map, zip, get_or, cond, not, ◌==◌, eqb, true, false, Bool, ltb, Some, None, refl, ap, ap₂, sym, ◌∙◌, subst, arith, eq-eqb, ne_eqb, eqb-true, lt-ltb, le-ltb, ltb-true}
 use Rattle.std.proofs.lemmas.List.Sums.{sum_by-cons}
 use Rattle.criteria_model.specs.declared.pairs.Pair.{Pair}
 use Rattle.criteria_model.specs.Criteria.{Criteria}

@@ -1,5 +1,5 @@
 -- How many tails there are.
-use Rattle.std.proofs.Common.{◌≡◌, ◌≢◌, ◌⊎◌, inl, inr, ℕ, zero, suc, ◌+◌, ◌-◌, ◌*◌, ◌/◌, ◌^◌, ◌≤◌, ◌<◌, min, List, [], ◌∷◌, ◌++◌, length, map, flat_map, sum_by, cond, ◌==◌, eqb, ltb, true, false, Bool, Option, Some, None, refl, ap, ap₂, sym, ◌∙◌, subst, arith, length-append, lt-ltb, le-ltb, eq-eqb, ne_eqb, eqb-true, pow-suc}
+use Rattle.std.proofs.Common.{◌≡◌, ◌⊎◌, inl, inr, ℕ, zero, suc, ◌+◌, ◌-◌, ◌*◌, ◌/◌, ◌^◌, ◌≤◌, ◌<◌, min, List, [], ◌∷◌, length, map, sum_by, cond, eqb, ltb, true, false, Bool, Option, Some, None, refl, ap, ap₂, sym, ◌∙◌, subst, arith, length-append, lt-ltb, le-ltb, eq-eqb, ne_eqb, pow-suc}
 use Rattle.std.specs.List.{range_with_len}
 use Rattle.std.specs.Option.{option_map_or}
 use Rattle.std.proofs.lemmas.List.{length-map}

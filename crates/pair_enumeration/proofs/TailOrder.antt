@@ -1,19 +1,17 @@
 -- The tails stand in the order of the class list.
-use Rattle.std.proofs.Common.{◌≡◌, ◌≢◌, ◌⊎◌, inl, inr, ℕ, zero, suc, ◌+◌, ◌-◌, ◌≤◌, ◌<◌, List, [], ◌∷◌, ◌++◌, length, map, flat_map, zip, get_or, All, cond, ◌==◌, eqb, true, false, Bool, Option, Some, None, refl, ap, ap₂, sym, ◌∙◌, subst, subst₂, arith, ne_eqb, eqb-true, nat_cmp, Ordering, Less, Equal, Greater, eq-or-lt_of_le}
+use Rattle.std.proofs.Common.{◌≡◌, ◌≢◌, ◌⊎◌, inl, inr, ℕ, zero, suc, ◌-◌, ◌≤◌, ◌<◌, List, [], ◌∷◌, map, All, cond, Option, Some, None, refl, ap, ap₂, sym, ◌∙◌, subst, subst₂, arith, ne_eqb, nat_cmp, Less, Equal, eq-or-lt_of_le}
 use Rattle.std.specs.List.{range_with_len}
 use Rattle.std.specs.Option.{option_map_or}
 use Rattle.std.specs.Ordering.{ordering_then}
 use Rattle.std.specs.Cmp.{nat_cmp_is}
 use Rattle.std.specs.Cmp.Lexicographic.{slice_cmp}
-use Rattle.criteria_model.specs.declared.pairs.Pair.{Pair}
-use Rattle.criteria_model.specs.Alternatives.{degree}
 use Rattle.criteria_model.specs.Classes.{order_level, order_key, ComesBefore}
 use Rattle.pair_enumeration.specs.declared.walks.Stage.{Stage}
 use Rattle.pair_enumeration.specs.declared.walks.Stage.TheVariants.{Same, Left, Both}
 use Rattle.pair_enumeration.specs.Walks.{stage_after, Tail, with_levels, option_tails, row_tails, differing_tails, tails, joined, listed_classes, codes, Precedes}
 use Rattle.pair_enumeration.proofs.Members.{Among, Sorted, among-map, among-flat_map, among-range, sorted-append, sorted-map, sorted-flat_map-range}
-use Rattle.pair_enumeration.proofs.TailMembers.{Differs, IsTail, differing_found, tails_are}
-use Rattle.pair_enumeration.proofs.TailClasses.{IsTold, from_tail, after_differs, zip-lefts, lefts, rights}
+use Rattle.pair_enumeration.proofs.TailMembers.{differing_found, tails_are}
+use Rattle.pair_enumeration.proofs.TailClasses.{from_tail, after_differs, zip-lefts}
 
 pub cmp_less : (a b : ℕ) → a < b → nat_cmp a b ≡ Less
 cmp_less a b h = sym (nat_cmp_is a b Less h)

@@ -1,5 +1,5 @@
 -- The steps of the walk that lists all classes.
-use Rattle.std.proofs.Common.{◌≡◌, ℕ, zero, suc, ◌+◌, ◌-◌, ◌≤◌, ◌<◌, ◌∙◌, List, [], ◌∷◌, ◌++◌, length, take, drop, map, get_or, slice_index, flat_map, nat_lt, ◌==◌, Option, Some, None, refl, ap, ap₂, sym, subst, arith, append_assoc, append-nil, length-drop, cond, true, false, ltb, ltb-true, All, drop-cons, Result, Ok, Err, OnOk}
+use Rattle.std.proofs.Common.{◌≡◌, ℕ, zero, suc, ◌+◌, ◌-◌, ◌≤◌, ◌<◌, ◌∙◌, List, [], ◌∷◌, ◌++◌, length, take, drop, map, slice_index, flat_map, Option, Some, None, refl, ap, ap₂, sym, subst, arith, append_assoc, append-nil, length-drop, All, drop-cons, Result, Ok, Err, OnOk}
 use Rattle.std.specs.List.{range_with_len}
 use Rattle.std.specs.Option.{option_map_or}
 use Rattle.std.proofs.lemmas.List.{map-append}
@@ -8,9 +8,9 @@ use Rattle.std.proofs.lemmas.List.Concat.{flat_map-append}
 use Rattle.criteria_model.specs.declared.pairs.Pair.{Pair}
 use Rattle.criteria_model.proofs.CountLemmas.{range_with_len-more}
 use Rattle.pair_enumeration.specs.declared.walks.Stage.{Stage}
-use Rattle.pair_enumeration.specs.declared.walks.Stage.TheVariants.{Same, Left, Both}
+use Rattle.pair_enumeration.specs.declared.walks.Stage.TheVariants.{Same}
 use Rattle.pair_enumeration.specs.declared.walks.Walk.{Walk}
-use Rattle.pair_enumeration.specs.Walks.{stage_after, Tail, with_levels, option_tails, row_tails, differing_tails, tails, joined, IsWalk, pairs_from, found_from, found_with, listed_classes}
+use Rattle.pair_enumeration.specs.Walks.{stage_after, Tail, with_levels, option_tails, row_tails, differing_tails, tails, joined, IsWalk, pairs_from, found_from, found_with}
 
 -- the items so far are those at the beginning, and the pairs with a lower left level on the next criterion
 pub record ListsLevels (counts : List ℕ) (walk : Walk) (level : ℕ) (before now : List Pair) : Type 0 where

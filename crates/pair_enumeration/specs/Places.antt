@@ -1,5 +1,5 @@
 -- The place of the class of two alternatives.
-use Rattle.std.specs.Prelude.{◌≡◌, ◌↔◌, ℕ, ◌-◌, ◌≤◌, List, [], ◌∷◌, Some, slice_get, ◌==◌, if◌then◌else◌}
+use Rattle.std.specs.Prelude.{◌≡◌, ℕ, ◌-◌, ◌≤◌, List, [], ◌∷◌, Some, slice_get, ◌==◌, if◌then◌else◌}
 use Rattle.criteria_model.specs.declared.pairs.Pair.{Pair}
 use Rattle.criteria_model.specs.Alternatives.{IsAlternative, IsUndominated, degree}
 use Rattle.criteria_model.specs.Criteria.{Criteria}

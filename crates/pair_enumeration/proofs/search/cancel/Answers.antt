@@ -1,4 +1,4 @@
-use Rattle.std.proofs.Common.{◌≡◌, ◌+◌, ◌∙◌, sym, ap, ap₂, subst, length, length-set, take, get_or, arith, ◌++◌, ◌∷◌, []}
+use Rattle.std.proofs.Common.{◌≡◌, ◌∙◌, sym, ap, ap₂, subst, length, length-set, take, arith, ◌++◌, ◌∷◌, []}
 use Rattle.std.proofs.lemmas.List.{take_more_set, take_more, take_all}
 use Rattle.criteria_model.specs.Lists.{IsTuple}
 use Rattle.pair_enumeration.specs.Places.{cancelled}

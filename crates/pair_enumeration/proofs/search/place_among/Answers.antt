@@ -1,4 +1,4 @@
-use Rattle.std.proofs.Common.{◌≡◌, ◌∙◌, arith, refl, sym, true≢false}
+use Rattle.std.proofs.Common.{◌∙◌, arith, refl, sym, true≢false}
 use Rattle.std.proofs.lemmas.List.{get_or_default}
 use Rattle.pair_enumeration.proofs.SearchLemmas.{not_below_middle, found_at, nowhere}
 use Rattle.pair_enumeration.proofs.search.place_among.Goals as goal

@@ -1,4 +1,4 @@
-use Rattle.std.proofs.Common.{◌-◌, ◌≤◌, length}
+use Rattle.std.proofs.Common.{◌-◌}
 use Rattle.pair_enumeration.proofs.SearchLemmas.{IsNotOutside}
 use Rattle.pair_enumeration.proofs.search.place_among.Given as goal
 

@@ -1,4 +1,4 @@
-use Rattle.std.proofs.Common.{◌≡◌, ◌<◌, arith, sym, ap, rules, length, slice_index, ◌∙◌, ◌++◌, ◌+◌, subst}
+use Rattle.std.proofs.Common.{◌<◌, arith, sym, ap, rules, length, ◌∙◌, ◌++◌, ◌+◌, subst}
 use Rattle.pair_enumeration.specs.Walks.{found_from}
 use Rattle.pair_enumeration.proofs.WalkLemmas.{IsNext, ListsRow, next_is_walk, row_more, row_same, levels_more, levels_done, cancelled_found, nothing_found, on_ok}
 use Rattle.pair_enumeration.proofs.walks.+walk.Goals as goal

@@ -1,4 +1,4 @@
-use Rattle.std.proofs.Common.{◌≡◌, ◌-◌, [], arith, sym, ap, ◌∙◌, flat_map, map}
+use Rattle.std.proofs.Common.{◌≡◌, ◌-◌, [], arith, ap, ◌∙◌, flat_map, map}
 use Rattle.std.specs.List.{range_with_len}
 use Rattle.pair_enumeration.specs.declared.walks.Stage.TheVariants.{Same}
 use Rattle.pair_enumeration.specs.Walks.{tails, joined}

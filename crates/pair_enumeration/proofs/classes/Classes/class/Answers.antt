@@ -1,4 +1,4 @@
-use Rattle.std.proofs.Common.{◌≡◌, ◌-◌, ◌∙◌, sym, ap, subst, length, arith}
+use Rattle.std.proofs.Common.{◌≡◌, ◌-◌, sym, ap, subst, length, arith}
 use Rattle.criteria_model.specs.Classes.{IsClass}
 use Rattle.pair_enumeration.proofs.classes.Classes.class.Goals as goal
 

@@ -1,4 +1,4 @@
-use Rattle.std.proofs.Common.{◌≡◌, ◌∙◌, refl}
+use Rattle.std.proofs.Common.{◌∙◌, refl}
 use Rattle.pair_enumeration.proofs.ListLemmas.{listed_by}
 use Rattle.pair_enumeration.proofs.classes.Classes.list.Goals as goal
 

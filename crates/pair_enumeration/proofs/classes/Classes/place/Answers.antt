@@ -1,4 +1,4 @@
-use Rattle.std.proofs.Common.{◌≡◌, subst, get_or, List, Contains}
+use Rattle.std.proofs.Common.{subst, get_or, List, Contains}
 use Rattle.std.proofs.lemmas.List.{get_or_default}
 use Rattle.criteria_model.specs.declared.pairs.Pair.{Pair}
 use Rattle.pair_enumeration.proofs.classes.Classes.place.Goals as goal
