@@ -1,23 +1,19 @@
 -- Adding a multiple of a row, one place after another, and how large the sums grow.
-use Rattle.std.proofs.Common.{◌≡◌, ℕ, zero, suc, ◌+◌, ◌-◌, ◌*◌, ◌^◌, ◌<◌, ◌≤◌, List, [], ◌∷◌, ◌++◌, length, take, drop, replicate, drop-drop, get_or, set, All, ℤ, pos, ◌+ℤ◌, ◌*ℤ◌, unsigned_abs, Option, Some, None, IfSome, slice_get, inl, inr, subst, refl, ap, ap₂, sym, ◌∙◌, arith}
+use Rattle.std.proofs.Common.{◌≡◌, ℕ, zero, suc, ◌+◌, ◌-◌, ◌*◌, ◌^◌, ◌<◌, ◌≤◌, List, [], ◌∷◌, ◌++◌, length, take, drop, replicate, drop-drop, get_or, set, All, ℤ, pos, ◌+ℤ◌, ◌*ℤ◌, unsigned_abs, Some, slice_get, refl, ap, ap₂, sym, ◌∙◌, arith}
 use Rattle.std.specs.Option.{option_map_or}
 use Rattle.std.proofs.lemmas.Int.{ints, unsigned_abs-mul}
 use Rattle.std.proofs.Math.Nat.{mul-le-mul}
 use Rattle.std.proofs.lemmas.List.Elements.{All-cons, All-head, All-tail, All-nil, All-weaker, All-take, All-drop}
 use Rattle.std.proofs.lemmas.List.Sums.{fold_more, sum_by_more, sum_by_more_le}
 use Rattle.std.proofs.lemmas.List.{length-take, length-drop, map-append}
-use Rattle.std.proofs.lemmas.Option.{slice_get_cases}
 use Rattle.criteria_model.specs.declared.pairs.Answer.{Answer}
 use Rattle.criteria_model.specs.Rows.{plus, minus, times}
 use Rattle.criteria_model.specs.Worth.{increments, has, has_on}
-use Rattle.criteria_model.specs.Pairs.{IsFit}
 use Rattle.criteria_model.specs.Answers.{gain}
 use Rattle.criteria_model.proofs.RowLemmas.{length-plus, length-minus, length-times}
 use Rattle.criteria_model.proofs.LevelLemmas.{length-has_on, length-minus-has, minus-has-take_more, has_on-by}
-use Rattle.criteria_model.proofs.GainLemmas.{length-gain}
 use Rattle.farkas_check.specs.declared.cites.Cite.{Cite}
 use Rattle.farkas_check.specs.Sums.{cited_gain, total}
-use Rattle.farkas_check.specs.Proof.{IsThere}
 use Rattle.criteria_model.proofs.Integers.{mul-zero, unsigned_abs-add}
 
 pub plus-nil : (a : List ℤ) → plus a [] ≡ a

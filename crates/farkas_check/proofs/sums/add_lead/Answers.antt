@@ -1,9 +1,7 @@
-use Rattle.std.proofs.Common.{◌≡◌, ℕ, ◌+◌, ◌-◌, ◌^◌, ◌≤◌, ◌<◌, List, length, get_or, take, drop, All, ℤ, unsigned_abs, to_z, of_z, ap, sym, ◌∙◌, arith}
+use Rattle.std.proofs.Common.{◌≡◌, ℕ, ◌+◌, ◌-◌, ◌^◌, ◌≤◌, ◌<◌, List, length, get_or, ap, sym, ◌∙◌, arith}
 use Rattle.std.specs.Int.{w128}
 use Rattle.std.proofs.lemmas.Int.{to_z-of_z}
 use Rattle.std.proofs.lemmas.Option.{get_or_from_slice_get}
-use Rattle.criteria_model.specs.Rows.{plus, minus, times}
-use Rattle.criteria_model.specs.Worth.{has_on}
 use Rattle.farkas_check.proofs.SumLemmas.{AreLeads, next_within, part_small, AreLeads-more}
 use Rattle.farkas_check.proofs.sums.add_lead.Goals as goal
 use Rattle.farkas_check.proofs.sums.add_lead.Goals.{After-from-steps}
