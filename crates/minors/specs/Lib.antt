@@ -1,0 +1,3 @@
+pub mod Minor
+pub mod Combination
+pub mod Laws
