@@ -1,1 +1,5 @@
 pub mod Arrangements
+pub mod Table
+pub mod Kept
+pub mod Values
+pub mod Signs

@@ -1,6 +1,6 @@
 -- How a dictionary keeps what it promises: scale and entries are minors of the table of its variables.
 -- The table has a row for each variable, and a column for each increment and one for the constant 1.
-use Rattle.std.specs.Prelude.{ℕ, ◌+◌, ◌-◌, ◌≡◌, ◌<◌, ◌≤◌, List, [], ◌∷◌, ◌++◌, length, take, drop, map, slice_index, slice_index_or, ℤ, pos, neg_ℤ, ◌+ℤ◌, ◌-ℤ◌, ◌*ℤ◌, ◌≤ℤ◌, ◌↔◌, ◌≢◌, ◌^◌, unsigned_abs, fold, if◌then◌else◌, ◌==◌, nat_le}
+use Rattle.std.specs.Prelude.{ℕ, ◌+◌, ◌-◌, ◌≡◌, ◌<◌, ◌≤◌, List, [], ◌∷◌, ◌++◌, length, take, drop, map, slice_index, slice_index_or, ℤ, pos, neg_ℤ, ◌+ℤ◌, ◌-ℤ◌, ◌*ℤ◌, ◌≤ℤ◌, ◌≢◌, ◌^◌, unsigned_abs, fold, if◌then◌else◌, ◌==◌, nat_le}
 use Rattle.std.specs.List.{range_with_len}
 use Rattle.wide_step.specs.Quotient.{HasQuotient}
 use Rattle.fraction_free.specs.Changes.{number_at}
@@ -61,10 +61,10 @@ pub record IsMinorTableau (columns : ℕ) (loaded : List LoadedRow) (scale : ℤ
   pub lines_are : (row : ℕ) → row < length loaded
       → IsCombination scale (table_row columns loaded (slice_index order (columns + 1 + row))) (slice_index_or lines row []) (square_of columns loaded order)
 
--- what a dictionary keeps: its numbers are minors, its solutions those of the loaded rows, and there is room
+-- what a dictionary keeps: its numbers are minors, its solutions have the loaded rows' slacks, and there is room
 pub record IsKept (columns : ℕ) (loaded : List LoadedRow) (scale : ℤ) (places : Arranged) (lines : List (List ℤ)) (room_columns room_rows lines_room loaded_room loads added : ℕ) : Type 0 where
   pub minors : IsMinorTableau columns loaded scale places.order lines
-  pub solutions : (x : ℕ → ℤ) → Satisfies (tableau_of columns loaded scale places.order lines room_columns room_rows loads added) x ↔ HasSlacks columns loaded x
+  pub solutions : (x : ℕ → ℤ) → Satisfies (tableau_of columns loaded scale places.order lines room_columns room_rows loads added) x → HasSlacks columns loaded x
   pub columns_room : columns ≤ room_columns
   pub columns_most : room_columns ≤ 24
   pub rows_room : length loaded ≤ room_rows
