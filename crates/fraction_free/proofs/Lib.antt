@@ -3,3 +3,4 @@ pub mod Table
 pub mod Kept
 pub mod Values
 pub mod Signs
+pub mod PivotKept
