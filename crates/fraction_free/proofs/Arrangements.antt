@@ -30,16 +30,20 @@ swapped_tells order place new_order new_place p q h p_below q_below order_len pl
   where
     a : ℕ
     a = get_or order p 0
+
     b : ℕ
     b = get_or order q 0
+
     place_case : (n : ℕ) → n < length order → (get_or new_place n 0 < length order) × (get_or new_order (get_or new_place n 0) 0 ≡ n)
     place_case n below =
         by_cases (cases_eq n a) (cases_eq n b)
       where
         at_q : (n ≡ a) → get_or new_place n 0 ≡ q
         at_q e = ap (λ k. get_or new_place k 0) e ∙ l.0 0 ∙ h.back q q_below
+
         at_p : (n ≡ b) → get_or new_place n 0 ≡ p
         at_p e = ap (λ k. get_or new_place k 0) e ∙ l.1 0 ∙ h.back p p_below
+
         by_cases : (n ≡ a) ⊎ (n ≢ a) → (n ≡ b) ⊎ (n ≢ b) → (get_or new_place n 0 < length order) × (get_or new_order (get_or new_place n 0) 0 ≡ n)
         by_cases (inl e) d = (omega (arith, at_q e), ap (λ k. get_or new_order k 0) (at_q e) ∙ o.1 0 ∙ sym e)
         by_cases (inr ne) (inl f) = (omega (arith, at_p f), ap (λ k. get_or new_order k 0) (at_p f) ∙ o.0 0 ∙ sym f)
@@ -48,13 +52,16 @@ swapped_tells order place new_order new_place p q h p_below q_below order_len pl
             let not_p : get_or place n 0 ≢ p = λ e. ne (sym (h.found n below) ∙ ap (λ k. get_or order k 0) e) in
             let not_q : get_or place n 0 ≢ q = λ e. nf (sym (h.found n below) ∙ ap (λ k. get_or order k 0) e) in
             (omega (arith, same, h.place_below n below), ap (λ k. get_or new_order k 0) same ∙ o.2 (get_or place n 0) 0 not_p not_q ∙ h.found n below)
+
     order_case : (at : ℕ) → at < length order → (get_or new_order at 0 < length order) × (get_or new_place (get_or new_order at 0) 0 ≡ at)
     order_case at below = by_cases (cases_eq at p) (cases_eq at q)
       where
         is_b : (at ≡ p) → get_or new_order at 0 ≡ b
         is_b e = ap (λ k. get_or new_order k 0) e ∙ o.0 0
+
         is_a : (at ≡ q) → get_or new_order at 0 ≡ a
         is_a e = ap (λ k. get_or new_order k 0) e ∙ o.1 0
+
         by_cases : (at ≡ p) ⊎ (at ≢ p) → (at ≡ q) ⊎ (at ≢ q) → (get_or new_order at 0 < length order) × (get_or new_place (get_or new_order at 0) 0 ≡ at)
         by_cases (inl e) d = (omega (arith, is_b e, h.below q q_below), ap (λ k. get_or new_place k 0) (is_b e) ∙ l.1 0 ∙ h.back p p_below ∙ sym e)
         by_cases (inr ne) (inl f) = (omega (arith, is_a f, h.below p p_below), ap (λ k. get_or new_place k 0) (is_a f) ∙ l.0 0 ∙ h.back q q_below ∙ sym f)
@@ -76,10 +83,13 @@ pushed_tells order place h = record {
   where
     n : ℕ
     n = length order
+
     last : get_or (order ++ n ∷ []) n 0 ≡ n
     last = get_or_at order n [] 0 n refl
+
     last_place : get_or (place ++ n ∷ []) n 0 ≡ n
     last_place = get_or_at place n [] 0 n h.len
+
     place_case : (k : ℕ) → (k ≡ n) ⊎ (k ≢ n) → k < n + 1 → (get_or (place ++ n ∷ []) k 0 < n + 1) × (get_or (order ++ n ∷ []) (get_or (place ++ n ∷ []) k 0) 0 ≡ k)
     place_case k (inl e) below =
         let there : get_or (place ++ n ∷ []) k 0 ≡ n = ap (λ j. get_or (place ++ n ∷ []) j 0) e ∙ last_place in
@@ -88,6 +98,7 @@ pushed_tells order place h = record {
         let inside : k < n = omega arith in
         let there : get_or (place ++ n ∷ []) k 0 ≡ get_or place k 0 = get_or_append_left place (n ∷ []) 0 k (omega (arith, h.len)) in
         (omega (arith, h.place_below k inside), ap (λ j. get_or (order ++ n ∷ []) j 0) there ∙ get_or_append_left order (n ∷ []) 0 (get_or place k 0) (h.place_below k inside) ∙ h.found k inside)
+
     order_case : (at : ℕ) → (at ≡ n) ⊎ (at ≢ n) → at < n + 1 → (get_or (order ++ n ∷ []) at 0 < n + 1) × (get_or (place ++ n ∷ []) (get_or (order ++ n ∷ []) at 0) 0 ≡ at)
     order_case at (inl e) below =
         let there : get_or (order ++ n ∷ []) at 0 ≡ n = ap (λ j. get_or (order ++ n ∷ []) j 0) e ∙ last in
@@ -110,18 +121,23 @@ popped_tells order place h some end = record {
   where
     n : ℕ
     n = length order - 1
+
     last_place : get_or place n 0 ≡ n
     last_place = ap (λ k. get_or place k 0) (sym end) ∙ h.back n (omega arith)
+
     place_taken : (k : ℕ) → k < n → get_or (take (length place - 1) place) k 0 ≡ get_or place k 0
     place_taken k below = get_or-take (length place - 1) place k 0 (omega (arith, h.len))
+
     order_taken : (at : ℕ) → at < n → get_or (take n order) at 0 ≡ get_or order at 0
     order_taken at below = get_or-take n order at 0 below
+
     place_case : (k : ℕ) → k < n → (get_or (take (length place - 1) place) k 0 < n) × (get_or (take n order) (get_or (take (length place - 1) place) k 0) 0 ≡ k)
     place_case k below =
         let inside : k < length order = omega arith in
         let not_last : get_or place k 0 ≢ n = λ e. absurd (omega (arith, sym (h.found k inside) ∙ ap (λ j. get_or order j 0) e ∙ end)) in
         let low : get_or place k 0 < n = omega (arith, h.place_below k inside) in
         (omega (arith, place_taken k below), ap (λ j. get_or (take n order) j 0) (place_taken k below) ∙ order_taken (get_or place k 0) low ∙ h.found k inside)
+
     order_case : (at : ℕ) → at < n → (get_or (take n order) at 0 < n) × (get_or (take (length place - 1) place) (get_or (take n order) at 0) 0 ≡ at)
     order_case at below =
         let inside : at < length order = omega arith in
@@ -141,17 +157,22 @@ first_tells m = record {
   where
     order_len : length (range_with_len 1 m ++ 0 ∷ []) ≡ m + 1
     order_len = length_push (range_with_len 1 m) 0 ∙ ap (λ k. k + 1) (length-range_with_len 1 m)
+
     last : get_or (range_with_len 1 m ++ 0 ∷ []) m 0 ≡ 0
     last = get_or_at (range_with_len 1 m) 0 [] 0 m (length-range_with_len 1 m)
+
     early : (at : ℕ) → at < m → get_or (range_with_len 1 m ++ 0 ∷ []) at 0 ≡ 1 + at
     early at below = get_or_append_left (range_with_len 1 m) (0 ∷ []) 0 at (omega (arith, length-range_with_len 1 m)) ∙ get_or-range_with_len 1 m at 0 below
+
     place_case : (n : ℕ) → n < m + 1 → (get_or (m ∷ range_with_len 0 m) n 0 < m + 1) × (get_or (range_with_len 1 m ++ 0 ∷ []) (get_or (m ∷ range_with_len 0 m) n 0) 0 ≡ n)
     place_case zero below = (omega arith, last)
     place_case (suc n) below =
         let there : get_or (range_with_len 0 m) n 0 ≡ 0 + n = get_or-range_with_len 0 m n 0 (omega arith) in
         (omega (arith, there), ap (λ k. get_or (range_with_len 1 m ++ 0 ∷ []) k 0) there ∙ early (0 + n) (omega arith) ∙ omega arith)
+
     back_at : (k n : ℕ) → k ≡ suc n → n < m → get_or (m ∷ range_with_len 0 m) k 0 ≡ n
     back_at k n e below = ap (λ j. get_or (m ∷ range_with_len 0 m) j 0) e ∙ get_or-range_with_len 0 m n 0 below ∙ omega arith
+
     order_case : (at : ℕ) → (at ≡ m) ⊎ (at ≢ m) → at < m + 1 → (get_or (range_with_len 1 m ++ 0 ∷ []) at 0 < m + 1) × (get_or (m ∷ range_with_len 0 m) (get_or (range_with_len 1 m ++ 0 ∷ []) at 0) 0 ≡ at)
     order_case at (inl e) below =
         let there : get_or (range_with_len 1 m ++ 0 ∷ []) at 0 ≡ 0 = ap (λ k. get_or (range_with_len 1 m ++ 0 ∷ []) k 0) e ∙ last in

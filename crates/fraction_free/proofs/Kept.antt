@@ -1,15 +1,18 @@
 -- What every dictionary keeps gives what callers see of it.
-use Rattle.std.proofs.Common.{◌≡◌, ◌∙◌, ◌↔◌, ℕ, ◌+◌, ◌*◌, ◌<◌, ◌≤◌, ℤ, pos, ◌*ℤ◌, unsigned_abs, List, [], ◌∷◌, ◌++◌, length, take, drop, map, get_or, sym, ap, subst, refl, arith}
-use Rattle.std.proofs.lemmas.List.{length-map, length-take-le, length-drop, get_or-drop, take_more, take-append-drop, drop_more}
-use Rattle.minors.specs.Minor.{entry, factorial, HasSmallEntries}
+use Rattle.std.proofs.Common.{◌≡◌, ◌∙◌, ◌↔◌, ◌≢◌, inl, inr, lit<, ◌^◌, ◌-ℤ◌, set, ℕ, ◌+◌, ◌*◌, ◌<◌, ◌≤◌, ℤ, pos, ◌*ℤ◌, unsigned_abs, List, [], ◌∷◌, ◌++◌, length, take, drop, map, get_or, sym, ap, subst, refl, arith}
+use Rattle.std.proofs.lemmas.List.{length-map, length-take-le, length-drop, get_or-drop, take_more, take-append-drop, drop_more, get_or_past, length-set, get_or-set_same, get_or-set_other}
+use Rattle.std.proofs.lemmas.Bool.{cases_eq, cases_lt}
+use Rattle.std.specs.List.{All}
+use Rattle.wide_step.specs.Quotient.{HasQuotient}
+use Rattle.minors.specs.Minor.{entry, minor, factorial, HasSmallEntries}
 use Rattle.minors.specs.Combination.{IsCombination, IsScale}
 use Rattle.minors.specs.Combination.{dot as dot_of}
-use Rattle.minors.proofs.Laws.{factor_is_bounded, scale_is_bounded, bound_is_small}
+use Rattle.minors.proofs.Laws.{factor_is_bounded, minor_is_bounded, scale_is_bounded, bound_is_small, pivot_divides}
 use Rattle.criteria_model.specs.Rows.{dot}
 use Rattle.fraction_free.specs.declared.loaded.LoadedRow.{LoadedRow}
 use Rattle.fraction_free.specs.Arrangement.{IsArrangement, Arranged}
 use Rattle.fraction_free.specs.Tableau.{Tableau, IsDictionary, IsLoadable, HasSlacks, Satisfies, loaded_at, line_of, column_variables, most_size}
-use Rattle.fraction_free.specs.Representation.{table_row, square_of, tableau_of, IsMinorTableau, IsKept}
+use Rattle.fraction_free.specs.Representation.{table_row, square_of, tableau_of, IsMinorTableau, IsKept, CanExchange}
 use Rattle.fraction_free.proofs.Table.{square_small, length-square, table_row_small}
 use Rattle.fraction_free.proofs.Values.{same_dot, combination_value, variable_value, point_of}
 
@@ -79,3 +82,68 @@ dictionary_from_kept m l s places lines a b c d e f k =
       sizes = λ row column inside within. small_number m l s order lines row column t inside;
       solutions = λ x. (k.solutions x, satisfied m l s order lines a b e f x t);
     }
+
+pub most_fits : most_size < 2 ^ 89
+most_fits = bound_is_small.1
+
+pub number_fits : (m : ℕ) (l : List LoadedRow) (s : ℤ) (order : List ℕ) (lines : List (List ℤ)) (row column : ℕ) → IsMinorTableau m l s order lines
+    → unsigned_abs (get_or (get_or lines row []) column (pos 0)) < 2 ^ 89
+number_fits m l s order lines row column t =
+    elim (cases_lt row (length l)) [
+      | inl inside ↦ omega (arith, small_number m l s order lines row column t inside, most_fits)
+      | inr past ↦ subst (λ (n : ℤ). unsigned_abs n < 2 ^ 89) (sym (ap (λ (line : List ℤ). get_or line column (pos 0)) (get_or_past lines row [] (omega (arith, t.lines_len))))) (lit< tt)
+    ]
+
+pub scale_fits : (m : ℕ) (l : List LoadedRow) (s : ℤ) (order : List ℕ) (lines : List (List ℤ)) → IsMinorTableau m l s order lines → unsigned_abs s < 2 ^ 89
+scale_fits m l s order lines t = omega (arith, small_scale m l s order lines t, most_fits)
+
+-- what holds of each element, and of one that is written, holds of each afterwards
+All-set : (P : List ℤ → Type 0) (xs : List (List ℤ)) (k : ℕ) (y : List ℤ) → All P xs → P y → All P (set xs k y)
+All-set P xs k y all here i d below =
+    elim (cases_eq i k) [
+      | inl e ↦ subst P (sym (ap (λ j. get_or (set xs k y) j d) e ∙ get_or-set_same xs k y d (omega (arith, length-set xs k y)))) here
+      | inr ne ↦ subst P (sym (get_or-set_other xs k i y d ne)) (all i d (omega (arith, length-set xs k y)))
+    ]
+
+-- each difference of products that a pivot divides has an exact quotient, and that is a minor
+pub can_exchange : (m : ℕ) (l : List LoadedRow) (s : ℤ) (order : List ℕ) (lines : List (List ℤ)) (at column : ℕ) → IsMinorTableau m l s order lines → at < length l → column < m
+    → entry (get_or lines at []) column ≢ pos 0 → CanExchange s at column lines
+can_exchange m l s order lines at column t at_in below nonzero = record {
+  scale_nonzero = t.scale_is.nonzero;
+  scale_size = scale_fits m l s order lines t;
+  len = λ row inside. line_len m l s order lines row t (omega (arith, t.lines_len)) ∙ sym (line_len m l s order lines at t at_in);
+  column_below = omega (arith, line_len m l s order lines at t at_in);
+  sizes = λ row place. number_fits m l s order lines row place t;
+  exact = λ row place inside apart place_in other. quotient row place (omega (arith, t.lines_len)) (omega (arith, line_len m l s order lines at t at_in)) other;
+}
+  where
+    rows : List (List ℤ)
+    rows = square_of m l order
+
+    rows_len : length rows ≡ m + 1
+    rows_len = length-square m l order (omega (arith, t.order_len))
+
+    entering : List ℤ
+    entering = table_row m l (get_or order (m + 1 + at) 0)
+
+    is_small : (row : ℕ) → row < length l → HasSmallEntries (m + 1) 25 (table_row m l (get_or order (m + 1 + row) 0))
+    is_small row inside = table_row_small m l (get_or order (m + 1 + row) 0) t.columns_most t.rows (omega (arith, t.variables.below (m + 1 + row) (omega (arith, t.order_len)), t.order_len))
+
+    small_rows : All (HasSmallEntries (m + 1) 25) rows
+    small_rows = subst (λ n. All (HasSmallEntries n 25) rows) rows_len (square_small m l order t.columns_most t.order_len t.variables t.rows)
+
+    bounded : (row place : ℕ) → row < length l → place < m + 1 → unsigned_abs (minor (set (set rows column entering) place (table_row m l (get_or order (m + 1 + row) 0)))) < 2 ^ 126
+    bounded row place inside place_in =
+        let this = table_row m l (get_or order (m + 1 + row) 0) in
+        let two = set (set rows column entering) place this in
+        let two_len : length two ≡ m + 1 = length-set (set rows column entering) place this ∙ length-set rows column entering ∙ rows_len in
+        let all = All-set (HasSmallEntries (m + 1) 25) (set rows column entering) place this (All-set (HasSmallEntries (m + 1) 25) rows column entering small_rows (is_small at at_in)) (is_small row inside) in
+        let bound = minor_is_bounded two 25 (omega arith) (subst (λ n. All (HasSmallEntries n 25) two) (sym two_len) all) in
+        let most = bound_is_small.0 (length two) (omega (arith, t.columns_most)) in
+        omega (arith, most_fits)
+
+    quotient : (row place : ℕ) → row < length l → place < m + 1 → place ≢ column
+        → HasQuotient (entry (get_or lines at []) column *ℤ entry (get_or lines row []) place -ℤ entry (get_or lines row []) column *ℤ entry (get_or lines at []) place) s
+    quotient row place inside place_in other =
+        let q = pivot_divides s entering (get_or lines at []) (table_row m l (get_or order (m + 1 + row) 0)) (get_or lines row []) rows column place t.scale_is (t.lines_are at at_in) (t.lines_are row inside) (omega (arith, rows_len, below)) (omega (arith, rows_len)) other nonzero in
+        record { quotient = q.0; exact = q.1; size = subst (λ n. n < 2 ^ 126) (sym q.2) (bounded row place inside place_in) }

@@ -4,3 +4,4 @@ pub mod Kept
 pub mod Values
 pub mod Signs
 pub mod PivotKept
+pub mod LineSteps

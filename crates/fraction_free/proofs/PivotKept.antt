@@ -64,37 +64,46 @@ exchange_keeps m l s order lines new_s new_order new_lines row column t e = reco
   positive = subst (λ (n : ℤ). pos 1 ≤ℤ n) (sym e.scale) (with_sign-self p e.nonzero);
   scale_is = subst (λ (n : ℤ). IsScale n (square_of m l new_order)) (sym e.scale)
       (subst (IsScale (with_sign p p)) (sym squares)
-        (turned_scale p p (set rows column entering) (scale_after_pivot s entering pivot rows column t.scale_is of_entering inside e.nonzero)));
+      (turned_scale p p (set rows column entering) (scale_after_pivot s entering pivot rows column t.scale_is of_entering inside e.nonzero)));
   lines_are = λ other below. line_is other below (cases_eq other row);
 }
   where
     rows : List (List ℤ)
     rows = square_of m l order
+
     pivot : List ℤ
     pivot = get_or lines row []
+
     p : ℤ
     p = entry pivot column
+
     entering : List ℤ
     entering = table_row m l (get_or order (m + 1 + row) 0)
+
     row_in : row < length l
     row_in = omega (arith, e.row_below, t.lines_len)
+
     long : m + 1 ≤ length order
     long = omega (arith, t.order_len)
+
     of_entering : IsCombination s entering pivot rows
     of_entering = t.lines_are row row_in
+
     inside : column < length rows
     inside = omega (arith, length-square m l order long, e.column_below)
+
     squares : square_of m l new_order ≡ set rows column entering
     squares = swapped_square m l order new_order row column e.column_below e.swapped
+
     line_is : (other : ℕ) → other < length l → (other ≡ row) ⊎ (other ≢ row)
         → IsCombination new_s (table_row m l (get_or new_order (m + 1 + other) 0)) (get_or new_lines other []) (square_of m l new_order)
     line_is other below (inl same) =
         let leaving = leaving_of s column pivot (get_or new_lines row []) e.pivot_line in
         let comb = combination_of_turned p p (get_or rows column []) (get_or new_lines row []) (set rows column entering)
-              (leaving_row_is_combination s entering pivot (turn p (get_or new_lines row [])) rows column of_entering inside leaving) in
+        (leaving_row_is_combination s entering pivot (turn p (get_or new_lines row [])) rows column of_entering inside leaving) in
         let variable : get_or new_order (m + 1 + other) 0 ≡ get_or order column 0 = ap (λ k. get_or new_order (m + 1 + k) 0) same ∙ e.swapped.1 0 in
         let row_is : get_or rows column [] ≡ table_row m l (get_or new_order (m + 1 + other) 0) =
-              square_at m l order column [] long (omega (arith, e.column_below)) ∙ ap (table_row m l) (sym variable) in
+        square_at m l order column [] long (omega (arith, e.column_below)) ∙ ap (table_row m l) (sym variable) in
         moved new_s (with_sign p p) _ _ (get_or new_lines other []) (get_or new_lines row []) _ _ e.scale row_is (ap (λ k. get_or new_lines k []) same) squares comb
     line_is other below (inr apart) =
         let old = get_or lines other [] in
@@ -102,7 +111,7 @@ exchange_keeps m l s order lines new_s new_order new_lines row column t e = reco
         let pivoted = pivoted_of s column pivot old new (e.other_lines other (omega (arith, t.lines_len)) apart) in
         let this = table_row m l (get_or order (m + 1 + other) 0) in
         let comb = combination_of_turned p p this new (set rows column entering)
-              (pivot_keeps_combination s entering pivot this old (turn p new) rows column t.scale_is.nonzero of_entering (t.lines_are other below) inside pivoted) in
+        (pivot_keeps_combination s entering pivot this old (turn p new) rows column t.scale_is.nonzero of_entering (t.lines_are other below) inside pivoted) in
         let variable : get_or new_order (m + 1 + other) 0 ≡ get_or order (m + 1 + other) 0 = e.swapped.2 (m + 1 + other) 0 (omega (arith, e.column_below)) (omega arith) in
         moved new_s (with_sign p p) _ _ new new _ _ e.scale (ap (table_row m l) (sym variable)) refl squares comb
 
@@ -177,39 +186,51 @@ exchange_back m l s order lines new_s new_order new_lines row column x t e h oth
   where
     pivot : List ℤ
     pivot = get_or lines row []
+
     p : ℤ
     p = entry pivot column
+
     vs : List ℕ
     vs = take (m + 1) new_order
+
     cells : List (List ℤ)
     cells = map (cell x) vs
+
     row_in : row < length l
     row_in = omega (arith, e.row_below, t.lines_len)
+
     vs_len : length vs ≡ m + 1
     vs_len = length-take-le (m + 1) new_order (omega (arith, e.order_len, t.order_len))
+
     inside : column < length cells
     inside = omega (arith, length-map vs (cell x), vs_len, e.column_below)
+
     cells_back : set cells column (cell x (get_or order column 0)) ≡ map (cell x) (take (m + 1) order)
     cells_back = sym (map-set (cell x) vs column (get_or order column 0)) ∙ ap (map (cell x)) (columns_back m order new_order row column e.column_below e.swapped)
+
     some : 0 < length (take (m + 1) order)
     some = omega (arith, length-take-le (m + 1) order (omega (arith, t.order_len)))
+
     new_row : (i : ℕ) → i < length l → length (get_or new_lines i []) ≡ length (get_or lines i [])
         → IsCombination p (cell x (get_or new_order (m + 1 + i) 0)) (turn p (get_or new_lines i [])) cells
     new_row i i_below same =
         turned_of_combination p p (cell x (get_or new_order (m + 1 + i) 0)) (get_or new_lines i []) cells
         (subst (λ (n : ℤ). IsCombination n (cell x (get_or new_order (m + 1 + i) 0)) (get_or new_lines i []) cells) e.scale
-          (combination_of_equation new_s x (get_or new_order (m + 1 + i) 0) (get_or new_lines i []) vs
-            (same ∙ line_len m l s order lines i t i_below ∙ sym vs_len) (h i i_below)))
+        (combination_of_equation new_s x (get_or new_order (m + 1 + i) 0) (get_or new_lines i []) vs
+        (same ∙ line_len m l s order lines i t i_below ∙ sym vs_len) (h i i_below)))
+
     leaving : IsLeaving s column pivot (turn p (get_or new_lines row []))
     leaving = leaving_of s column pivot (get_or new_lines row []) e.pivot_line
+
     entering : IsCombination p (cell x (get_or order column 0)) (turn p (get_or new_lines row [])) cells
     entering = subst (λ k. IsCombination p (cell x k) (turn p (get_or new_lines row [])) cells) (e.swapped.1 0) (new_row row row_in e.pivot_line.len)
+
     by_row : (other ≡ row) ⊎ (other ≢ row) → s *ℤ x (get_or order (m + 1 + other) 0) ≡ dot_of (get_or lines other []) (map x (take (m + 1) order))
     by_row (inl same) =
         let comb = leaving_row_is_combination p (cell x (get_or order column 0)) (turn p (get_or new_lines row [])) pivot cells column entering inside (leaving_back s column pivot (turn p (get_or new_lines row [])) leaving) in
         let first : get_or cells column [] ≡ cell x (get_or order (m + 1 + other) 0) =
-              get_or-map (cell x) vs column 0 [] (omega (arith, vs_len, e.column_below))
-              ∙ ap (cell x) (get_or-take (m + 1) new_order column 0 (omega (arith, e.column_below)) ∙ e.swapped.0 0 ∙ ap (λ k. get_or order (m + 1 + k) 0) (sym same)) in
+        get_or-map (cell x) vs column 0 [] (omega (arith, vs_len, e.column_below))
+        ∙ ap (cell x) (get_or-take (m + 1) new_order column 0 (omega (arith, e.column_below)) ∙ e.swapped.0 0 ∙ ap (λ k. get_or order (m + 1 + k) 0) (sym same)) in
         equation_of_combination s x (get_or order (m + 1 + other) 0) (get_or lines other []) (take (m + 1) order) some
         (moved s _ _ _ (get_or lines other []) pivot _ _ (sym leaving.kept) first (ap (λ k. get_or lines k []) same) (sym cells_back) comb)
     by_row (inr apart) =
@@ -219,7 +240,7 @@ exchange_back m l s order lines new_s new_order new_lines row column x t e h oth
         let pivoted = pivoted_of s column pivot old (get_or new_lines other []) line in
         let same_len : length pivot ≡ length old = line_len m l s order lines row t row_in ∙ sym (line_len m l s order lines other t below) in
         let comb = pivot_keeps_combination p (cell x (get_or order column 0)) (turn p (get_or new_lines row [])) (cell x (get_or new_order (m + 1 + other) 0)) turned old cells column
-              e.nonzero entering (new_row other below line.len) inside (pivoted_back s column pivot old turned (turn p (get_or new_lines row [])) pivoted leaving same_len) in
+        e.nonzero entering (new_row other below line.len) inside (pivoted_back s column pivot old turned (turn p (get_or new_lines row [])) pivoted leaving same_len) in
         let variable : get_or new_order (m + 1 + other) 0 ≡ get_or order (m + 1 + other) 0 = e.swapped.2 (m + 1 + other) 0 (omega (arith, e.column_below)) (omega arith) in
         equation_of_combination s x (get_or order (m + 1 + other) 0) old (take (m + 1) order) some
         (moved s _ _ _ old old _ _ (sym leaving.kept) (ap (cell x) variable) refl (sym cells_back) comb)

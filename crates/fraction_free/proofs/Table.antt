@@ -122,4 +122,4 @@ square_small m l order most len arranged rows k d below =
     let inside : k < m + 1 = omega arith in
     subst (λ order_len. HasSmallEntries order_len 25 (get_or (square_of m l order) k d)) (sym n)
     (subst (HasSmallEntries (m + 1) 25) (sym (square_at m l order k d (omega arith) inside))
-      (table_row_small m l (get_or order k 0) most rows (omega (arith, arranged.below k (omega arith)))))
+    (table_row_small m l (get_or order k 0) most rows (omega (arith, arranged.below k (omega arith)))))

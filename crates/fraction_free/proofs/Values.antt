@@ -102,9 +102,9 @@ pub square_values : (m : ℕ) (l : List LoadedRow) (order : List ℕ) (x : ℕ �
 square_values m l order x len arranged rows h =
     mapped_values (λ (r : List ℤ). dot_of r (point_of m x)) (table_row m l) x (take (m + 1) order)
     (λ k below.
-      let inside : k < m + 1 = omega (arith, length-take-le (m + 1) order (omega arith)) in
-      let v : get_or (take (m + 1) order) k 0 < m + 1 + length l = omega (arith, get_or-take (m + 1) order k 0 inside, arranged.below k (omega arith)) in
-      variable_value m l x (get_or (take (m + 1) order) k 0) rows h v)
+    let inside : k < m + 1 = omega (arith, length-take-le (m + 1) order (omega arith)) in
+    let v : get_or (take (m + 1) order) k 0 < m + 1 + length l = omega (arith, get_or-take (m + 1) order k 0 inside, arranged.below k (omega arith)) in
+    variable_value m l x (get_or (take (m + 1) order) k 0) rows h v)
 
 -- a combination of the square's rows holds of the variables' values
 pub combination_value : (m : ℕ) (l : List LoadedRow) (s : ℤ) (order : List ℕ) (x : ℕ → ℤ) (row factors : List ℤ) → length order ≡ m + 1 + length l → IsArrangement order

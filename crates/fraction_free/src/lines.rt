@@ -1,7 +1,7 @@
 //! One row of a dictionary's numbers.
 ghost use Rattle.std.specs.Prelude.{◌≡◌, ◌≢◌, ℕ, ◌<◌, ◌≤◌, ◌^◌, length, replicate, slice_set, slice_index_or, List, [], ℤ, pos, ◌+ℤ◌, ◌-ℤ◌, ◌*ℤ◌, unsigned_abs};
 ghost use Rattle.wide_step.specs.Quotient.{HasQuotient};
-ghost use Rattle.fraction_free.specs.Changes.{number_at, with_sign, IsOtherLine, IsPivotLine};
+ghost use Rattle.fraction_free.specs.Changes.{number_at, with_sign, IsOtherLine, IsPivotLine, IsExchangedAt};
 ghost use Rattle.fraction_free.specs.Representation.{CanExchange};
 
 use std::marker::Model;
@@ -84,16 +84,39 @@ impl Line {
             → HasQuotient (number_at pivot.now column *ℤ number_at self.old place -ℤ number_at self.old column *ℤ number_at pivot.now place) scale }
         ensures { IsOtherLine scale column pivot.now self.old self.new }
     {
-        let entry = pivot.get(column);
-        let factor = self.get(column);
         for place in 0..self.len() {
-            if place == column {
-                self.set(place, with_sign(entry, factor));
-            } else {
-                let quotient = step(entry, self.get(place), factor, pivot.get(place), scale);
-                self.set(place, with_sign(entry, quotient));
+            if place != column {
+                self.exchange_at(place, pivot, column, scale);
             }
         }
+        let number = with_sign(pivot.get(column), self.get(column));
+        self.set(column, number);
+    }
+
+    /// One number after a pivot on another row: the difference of products, divided exactly by the
+    /// old scale.
+    fn exchange_at(&mut self, place: usize, pivot: &Line, column: usize, scale: i128)
+        requires len { length pivot.now ≡ length self.old }
+        requires column { column < length self.old }
+        requires place { place < length self.old }
+        requires scale { scale ≢ pos 0 }
+        requires scale_size { unsigned_abs scale < 2 ^ 89 }
+        requires entry_size { unsigned_abs (number_at pivot.now column) < 2 ^ 89 }
+        requires number_size { unsigned_abs (number_at self.old place) < 2 ^ 89 }
+        requires factor_size { unsigned_abs (number_at self.old column) < 2 ^ 89 }
+        requires other_size { unsigned_abs (number_at pivot.now place) < 2 ^ 89 }
+        requires exact { HasQuotient (number_at pivot.now column *ℤ number_at self.old place -ℤ number_at self.old column *ℤ number_at pivot.now place) scale }
+        ensures { IsExchangedAt scale column pivot.now self.old self.new place }
+    {
+        let entry = pivot.get(column);
+        let quotient = step(
+            entry,
+            self.get(place),
+            self.get(column),
+            pivot.get(place),
+            scale,
+        );
+        self.set(place, with_sign(entry, quotient));
     }
 
     /// The line of the variable that was nonbasic, after a pivot on this row.
@@ -103,15 +126,14 @@ impl Line {
         requires sizes { (place : ℕ) → unsigned_abs (number_at self.old place) < 2 ^ 89 }
         ensures { IsPivotLine scale column self.old self.new }
     {
-        let entry = self.get(column);
         for place in 0..self.len() {
-            let value = if place == column {
-                scale
-            } else {
-                -self.get(place)
-            };
-            self.set(place, with_sign(entry, value));
+            if place != column {
+                let number = with_sign(self.get(column), -self.get(place));
+                self.set(place, number);
+            }
         }
+        let number = with_sign(self.get(column), scale);
+        self.set(column, number);
     }
 
     /// Adds a multiple of another line.
