@@ -1,9 +1,12 @@
 -- A pivot keeps what a dictionary keeps.
-use Rattle.std.proofs.Common.{◌≡◌, ◌≢◌, ◌∙◌, ◌⊎◌, inl, inr, ℕ, zero, suc, ◌+◌, ◌-◌, ◌<◌, ◌≤◌, ℤ, pos, ◌+ℤ◌, ◌*ℤ◌, ◌≤ℤ◌, List, [], ◌∷◌, ◌++◌, length, take, drop, map, get_or, set, sym, ap, subst, refl, arith}
+use Rattle.std.proofs.Common.{◌≡◌, ◌≢◌, ◌∙◌, ◌⊎◌, inl, inr, ℕ, zero, suc, ◌+◌, ◌-◌, ◌<◌, ◌≤◌, ◌^◌, unsigned_abs, to_z, of_z, ℤ, pos, ◌+ℤ◌, ◌*ℤ◌, ◌≤ℤ◌, List, [], ◌∷◌, ◌++◌, length, take, drop, map, get_or, set, sym, ap, subst, refl, arith}
 use Rattle.std.proofs.Math.Seq.{take-set-lt}
-use Rattle.std.proofs.lemmas.List.{take-set-le, map-set, length-set, length-map, length-take-le, length-drop, get_or-drop, get_or-take, set-set, set-get_or, get_or-set_other, get_or-map}
+use Rattle.std.proofs.lemmas.List.{take-set-le, drop-set-lt, drop-set-add, map-set, length-set, length-map, length-take-le, length-drop, get_or-drop, get_or-take, set-set, set-get_or, get_or-set_other, get_or-map}
 use Rattle.std.proofs.lemmas.Bool.{cases_eq}
-use Rattle.std.specs.List.{SwappedAt}
+use Rattle.std.proofs.lemmas.List.Edits.{length-swap, swap_is, swapped_from_swap}
+use Rattle.std.specs.List.{SwappedAt, swap}
+use Rattle.std.specs.Int.{w128}
+use Rattle.wide_step.proofs.Integers.{read_back}
 use Rattle.minors.specs.Minor.{entry}
 use Rattle.minors.specs.Combination.{IsCombination, IsScale, IsLeaving, column_of}
 use Rattle.minors.specs.Combination.{dot as dot_of}
@@ -11,14 +14,14 @@ use Rattle.minors.proofs.Laws.{scale_after_pivot, pivot_keeps_combination, leavi
 use Rattle.minors.proofs.Ring.{mul_zero, sums}
 use Rattle.criteria_model.specs.Rows.{dot}
 use Rattle.fraction_free.specs.declared.loaded.LoadedRow.{LoadedRow}
-use Rattle.fraction_free.specs.Arrangement.{IsArrangement}
-use Rattle.fraction_free.specs.Changes.{with_sign, IsOtherLine, IsPivotLine}
+use Rattle.fraction_free.specs.Arrangement.{IsArrangement, Arranged}
+use Rattle.fraction_free.specs.Changes.{with_sign, IsOtherLine, IsPivotLine, IsPivoted}
 use Rattle.fraction_free.specs.Tableau.{Satisfies}
-use Rattle.fraction_free.specs.Representation.{table_row, square_of, tableau_of, IsMinorTableau}
+use Rattle.fraction_free.specs.Representation.{table_row, square_of, tableau_of, IsMinorTableau, IsKept, AreExchanged}
 use Rattle.fraction_free.proofs.Table.{square_at, length-square}
 use Rattle.fraction_free.proofs.Values.{same_dot}
 use Rattle.fraction_free.proofs.Kept.{columns_and_constant, line_len}
-use Rattle.fraction_free.proofs.Signs.{with_sign-self, turn, turn_at, turned_scale, combination_of_turned, turned_of_combination, pivoted_of, leaving_of, pivoted_back, leaving_back}
+use Rattle.fraction_free.proofs.Signs.{with_sign-self, with_sign-abs, turn, turn_at, turned_scale, combination_of_turned, turned_of_combination, pivoted_of, leaving_of, pivoted_back, leaving_back}
 
 -- what a pivot on a row and a column does to scale, order and lines
 pub record IsExchange (m : ℕ) (s : ℤ) (order : List ℕ) (lines : List (List ℤ)) (new_s : ℤ) (new_order : List ℕ) (new_lines : List (List ℤ)) (row column : ℕ) : Type 0 where
@@ -244,3 +247,85 @@ exchange_back m l s order lines new_s new_order new_lines row column x t e h oth
         let variable : get_or new_order (m + 1 + other) 0 ≡ get_or order (m + 1 + other) 0 = e.swapped.2 (m + 1 + other) 0 (omega (arith, e.column_below)) (omega arith) in
         equation_of_combination s x (get_or order (m + 1 + other) 0) old (take (m + 1) order) some
         (moved s _ _ _ old old _ _ (sym leaving.kept) (ap (cell x) variable) refl (sym cells_back) comb)
+
+-- ---- from what the code does
+
+pub swapped_at : (xs ys : List ℕ) (i j : ℕ) → i < length xs → j < length xs → ys ≡ swap xs i j → SwappedAt xs ys i j
+swapped_at xs ys i j i_below j_below e =
+    ( (λ d. (swapped_from_swap xs ys i j d i_below j_below e).0)
+    , (λ d. (swapped_from_swap xs ys i j d i_below j_below e).1)
+    , (λ k d not_i not_j. (swapped_from_swap xs ys i j d i_below j_below e).2 k not_i not_j)
+    , (λ d. e ∙ sym (swap_is xs i j d i_below j_below)) )
+
+pub exchange_from : (m : ℕ) (l : List LoadedRow) (s t : ℤ) (order new_order : List ℕ) (lines new_lines : List (List ℤ)) (row column n q : ℕ) (entry_is w new_s : ℤ)
+    → IsMinorTableau m l s order lines → row < length l → column < m → entry (get_or lines row []) column ≢ pos 0
+    → t ≡ s → AreExchanged t row column lines new_lines
+    → entry_is ≡ entry (get_or lines row []) column → unsigned_abs entry_is < 2 ^ 89
+    → w ≡ with_sign (to_z w128 (of_z w128 entry_is)) (to_z w128 (of_z w128 entry_is)) → new_s ≡ to_z w128 (of_z w128 w)
+    → q ≡ m + 1 + row → new_order ≡ swap order column q → IsArrangement new_order
+    → IsExchange m s order lines new_s new_order new_lines row column
+exchange_from m l s t order new_order lines new_lines row column n q entry_is w new_s k row_in column_in nonzero same lines_are is size signed new at swapped arranged = record {
+  row_below = omega (arith, k.lines_len);
+  column_below = column_in;
+  nonzero = nonzero;
+  scale =
+      let back : to_z w128 (of_z w128 entry_is) ≡ entry_is = read_back w128 entry_is (omega arith) in
+      let value : w ≡ with_sign entry_is entry_is = signed ∙ ap (λ (z : ℤ). with_sign z z) back in
+      new ∙ ap (λ (z : ℤ). to_z w128 (of_z w128 z)) value ∙ read_back w128 (with_sign entry_is entry_is) (omega (arith, with_sign-abs entry_is entry_is)) ∙ ap (λ (z : ℤ). with_sign z z) is;
+  order_len = ap length swapped ∙ length-swap order column q;
+  swapped = swapped_at order new_order column (m + 1 + row) (omega (arith, k.order_len)) (omega (arith, k.order_len)) (swapped ∙ ap (swap order column) at);
+  arranged = arranged;
+  lines_len = lines_are.len;
+  pivot_line = subst (λ (z : ℤ). IsPivotLine z column (get_or lines row []) (get_or new_lines row [])) same lines_are.pivot_line;
+  other_lines = λ other below apart. subst (λ (z : ℤ). IsOtherLine z column (get_or lines row []) (get_or lines other []) (get_or new_lines other [])) same (lines_are.other_lines other below apart);
+}
+
+pub exchanged_back_all : (m : ℕ) (l : List LoadedRow) (s : ℤ) (places : Arranged) (lines : List (List ℤ)) (new_s : ℤ) (new_places : Arranged) (new_lines : List (List ℤ)) (row column a b e f : ℕ) (v : ℕ → ℤ)
+    → IsMinorTableau m l s places.order lines → IsExchange m s places.order lines new_s new_places.order new_lines row column
+    → Satisfies (tableau_of m l new_s new_places.order new_lines a b e f) v → Satisfies (tableau_of m l s places.order lines a b e f) v
+exchanged_back_all m l s places lines new_s new_places new_lines row column a b e f v k x h =
+    let new = exchange_keeps m l s places.order lines new_s new_places.order new_lines row column k x in
+    satisfies_from m l s places.order lines a b e f v k.order_len k.constant
+    (exchange_back m l s places.order lines new_s new_places.order new_lines row column v k x
+      (equations_of m l new_s new_places.order new_lines a b e f v new.order_len new.constant h))
+
+pub exchanged_kept : (m : ℕ) (l : List LoadedRow) (s : ℤ) (places : Arranged) (lines : List (List ℤ)) (new_s : ℤ) (new_places : Arranged) (new_lines : List (List ℤ)) (row column a b c d new_c e f : ℕ)
+    → IsKept m l s places lines a b c d e f → IsExchange m s places.order lines new_s new_places.order new_lines row column → new_places.room ≡ places.room → new_c ≡ c
+    → IsKept m l new_s new_places new_lines a b new_c d e f
+exchanged_kept m l s places lines new_s new_places new_lines row column a b c d new_c e f k x room same = record {
+  minors = exchange_keeps m l s places.order lines new_s new_places.order new_lines row column k.minors x;
+  solutions = λ v h. k.solutions v (exchanged_back_all m l s places lines new_s new_places new_lines row column a b e f v k.minors x h);
+  columns_room = k.columns_room;
+  columns_most = k.columns_most;
+  rows_room = k.rows_room;
+  rows_most = k.rows_most;
+  places_room = omega (arith, k.places_room);
+  has_lines_room = omega (arith, k.has_lines_room);
+  has_loaded_room = k.has_loaded_room;
+}
+
+pub pivoted_from : (m : ℕ) (l : List LoadedRow) (s : ℤ) (order : List ℕ) (lines : List (List ℤ)) (new_s : ℤ) (new_order : List ℕ) (new_lines : List (List ℤ)) (row column a b e f : ℕ)
+    → IsExchange m s order lines new_s new_order new_lines row column
+    → IsPivoted (tableau_of m l s order lines a b e f) (tableau_of m l new_s new_order new_lines a b e f) row column
+pivoted_from m l s order lines new_s new_order new_lines row column a b e f x = record {
+  rest = refl;
+  nonbasic =
+      ap (take m) (x.swapped.3 0)
+      ∙ take-set-le m (set order column entering) (m + 1 + row) leaving (omega arith)
+      ∙ take-set-lt m order column entering x.column_below
+      ∙ ap (set (take m order) column) (sym (get_or-drop (m + 1) order row 0));
+  basic =
+      ap (drop (m + 1)) (x.swapped.3 0)
+      ∙ drop-set-add (m + 1) (set order column entering) row leaving
+      ∙ ap (λ xs. set xs row leaving) (drop-set-lt (m + 1) order column entering (omega (arith, x.column_below)))
+      ∙ ap (set (drop (m + 1) order) row) (sym (get_or-take m order column 0 x.column_below));
+  scale = x.scale;
+  lines_len = x.lines_len;
+  pivot_line = x.pivot_line;
+  other_lines = x.other_lines;
+}
+  where
+    entering : ℕ
+    entering = get_or order (m + 1 + row) 0
+    leaving : ℕ
+    leaving = get_or order column 0

@@ -3,7 +3,7 @@
 use Rattle.std.specs.Prelude.{ℕ, ◌+◌, ◌-◌, ◌≡◌, ◌<◌, ◌≤◌, List, [], ◌∷◌, ◌++◌, length, take, drop, map, slice_index, slice_index_or, ℤ, pos, neg_ℤ, ◌+ℤ◌, ◌-ℤ◌, ◌*ℤ◌, ◌≤ℤ◌, ◌≢◌, ◌^◌, unsigned_abs, fold, if◌then◌else◌, ◌==◌, nat_le}
 use Rattle.std.specs.List.{range_with_len}
 use Rattle.wide_step.specs.Quotient.{HasQuotient}
-use Rattle.fraction_free.specs.Changes.{number_at}
+use Rattle.fraction_free.specs.Changes.{number_at, IsOtherLine, IsPivotLine}
 use Rattle.minors.specs.Combination.{IsCombination, IsScale}
 use Rattle.fraction_free.specs.declared.loaded.LoadedRow.{LoadedRow}
 use Rattle.fraction_free.specs.Arrangement.{IsArrangement, Arranged}
@@ -92,3 +92,10 @@ pub record CanCombine (columns : ℕ) (scale : ℤ) (order : List ℕ) (lines : 
   pub scale_size : unsigned_abs scale < 2 ^ 89
   pub len : (row : ℕ) → row < length lines → length (slice_index_or lines row []) ≡ columns + 1
   pub sizes : (row place : ℕ) → unsigned_abs (number_at (slice_index_or lines row []) place) < 2 ^ 89
+
+-- what a pivot makes of the lines
+pub record AreExchanged (scale : ℤ) (at column : ℕ) (old new : List (List ℤ)) : Type 0 where
+  pub len : length new ≡ length old
+  pub pivot_line : IsPivotLine scale column (slice_index_or old at []) (slice_index_or new at [])
+  pub other_lines : (other : ℕ) → other < length old → other ≢ at
+      → IsOtherLine scale column (slice_index_or old at []) (slice_index_or old other []) (slice_index_or new other [])

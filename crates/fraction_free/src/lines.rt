@@ -1,8 +1,8 @@
 //! One row of a dictionary's numbers.
-ghost use Rattle.std.specs.Prelude.{◌≡◌, ◌≢◌, ℕ, ◌<◌, ◌≤◌, ◌^◌, length, replicate, slice_set, slice_index_or, List, [], ℤ, pos, ◌+ℤ◌, ◌-ℤ◌, ◌*ℤ◌, unsigned_abs};
+ghost use Rattle.std.specs.Prelude.{◌≡◌, ◌≢◌, ℕ, ◌<◌, ◌≤◌, ◌^◌, length, replicate, slice_set, slice_index_or, vec_capacity, List, [], ℤ, pos, ◌+ℤ◌, ◌-ℤ◌, ◌*ℤ◌, unsigned_abs};
 ghost use Rattle.wide_step.specs.Quotient.{HasQuotient};
 ghost use Rattle.fraction_free.specs.Changes.{number_at, with_sign, IsOtherLine, IsPivotLine, IsExchangedAt};
-ghost use Rattle.fraction_free.specs.Representation.{CanExchange};
+ghost use Rattle.fraction_free.specs.Representation.{CanExchange, AreExchanged};
 
 use std::marker::Model;
 use wide_step::step;
@@ -161,7 +161,7 @@ pub fn with_sign(of: i128, number: i128) -> i128
 }
 
 /// The line at a place.
-pub fn copy_at(lines: &[Line], at: usize) -> Line
+fn copy_at(lines: &[Line], at: usize) -> Line
     requires { at < length lines.now }
     ensures { result ≡ slice_index_or lines.now at [] }
 {
@@ -169,15 +169,27 @@ pub fn copy_at(lines: &[Line], at: usize) -> Line
     line.copy()
 }
 
-/// All lines after a pivot.
-pub fn exchange_lines(lines: &mut [Line], at: usize, pivot: &Line, column: usize, scale: i128)
+/// All lines after a pivot, and the pivot's entry.
+pub fn pivot_lines(lines: &mut Vec<Line>, at: usize, column: usize, scale: i128) -> i128
+    requires at { at < length lines.old.items }
+    requires exact { CanExchange scale at column lines.old.items }
+    ensures entry { result ≡ number_at (slice_index_or lines.old.items at []) column }
+    ensures size { unsigned_abs result < 2 ^ 89 }
+    ensures lines { AreExchanged scale at column lines.old.items lines.new.items }
+    ensures capacity { vec_capacity lines.new ≡ vec_capacity lines.old }
+{
+    let pivot = copy_at(lines.as_slice(), at);
+    let entry = pivot.get(column);
+    exchange_lines(lines.as_mut_slice(), at, &pivot, column, scale);
+    entry
+}
+
+/// All lines after a pivot on the line at a place.
+fn exchange_lines(lines: &mut [Line], at: usize, pivot: &Line, column: usize, scale: i128)
     requires at { at < length lines.old }
     requires pivot { pivot.now ≡ slice_index_or lines.old at [] }
     requires exact { CanExchange scale at column lines.old }
-    ensures len { length lines.new ≡ length lines.old }
-    ensures pivot_line { IsPivotLine scale column pivot.now (slice_index_or lines.new at []) }
-    ensures other_lines { (other : ℕ) → other < length lines.old → other ≢ at
-        → IsOtherLine scale column pivot.now (slice_index_or lines.old other []) (slice_index_or lines.new other []) }
+    ensures { AreExchanged scale at column lines.old lines.new }
 {
     for row in 0..lines.len() {
         let line = &mut lines[row];

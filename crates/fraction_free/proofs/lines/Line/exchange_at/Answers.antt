@@ -6,7 +6,6 @@ use Rattle.fraction_free.specs.Changes.{with_sign, number_at, IsExchangedAt}
 use Rattle.fraction_free.proofs.Signs.{with_sign-mul, with_sign-abs}
 use Rattle.fraction_free.proofs.lines.Line.exchange_at.Goals as goal
 
-
 small_back : (z : ℤ) → unsigned_abs z < 2 ^ 126 → to_z w128 (of_z w128 z) ≡ z
 small_back z h = read_back w128 z (omega arith)
 
@@ -41,6 +40,6 @@ returns c =
     exchanged_at c.args.scale c.args.column pivot old c.set.new.self c.args.place _ c.step-quotient.result c.requires.place c.set.ensures
     (value_back c.with_sign.result c.get-entry.result c.step-quotient.result (number_at pivot c.args.column) c.with_sign.ensures c.get-entry.ensures c.requires.entry_size c.step-quotient.ensures.size)
     (quotient_back c.step-quotient.result c.args.scale c.get-entry.result c.get.result c.get-2.result c.get-3.result
-      (number_at pivot c.args.column) (number_at old c.args.place) (number_at old c.args.column) (number_at pivot c.args.place)
-      c.get-entry.ensures c.get.ensures c.get-2.ensures c.get-3.ensures c.requires.entry_size c.requires.number_size c.requires.factor_size c.requires.other_size c.requires.scale_size
-      c.step-quotient.ensures.quotient)
+    (number_at pivot c.args.column) (number_at old c.args.place) (number_at old c.args.column) (number_at pivot c.args.place)
+    c.get-entry.ensures c.get.ensures c.get-2.ensures c.get-3.ensures c.requires.entry_size c.requires.number_size c.requires.factor_size c.requires.other_size c.requires.scale_size
+    c.step-quotient.ensures.quotient)

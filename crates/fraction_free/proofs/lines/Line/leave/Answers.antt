@@ -12,17 +12,19 @@ negated_back : (w e y a b : ℤ) → w ≡ with_sign (to_z w128 (of_z w128 e)) (
     → unsigned_abs a < 2 ^ 89 → unsigned_abs b < 2 ^ 89 → to_z w128 (of_z w128 w) ≡ with_sign a (neg_ℤ b)
 negated_back w e y a b h i j a_size b_size =
     let minus : to_z w128 (of_z w128 (pos 0 -ℤ to_z w128 (of_z w128 y))) ≡ neg_ℤ b =
-          ap (λ (z : ℤ). to_z w128 (of_z w128 (pos 0 -ℤ z))) (ap (λ (z : ℤ). to_z w128 (of_z w128 z)) j ∙ read_back w128 b (omega arith))
-          ∙ read_back w128 (pos 0 -ℤ b) (omega (arith, less b)) ∙ turned b in
+    ap (λ (z : ℤ). to_z w128 (of_z w128 (pos 0 -ℤ z))) (ap (λ (z : ℤ). to_z w128 (of_z w128 z)) j ∙ read_back w128 b (omega arith))
+    ∙ read_back w128 (pos 0 -ℤ b) (omega (arith, less b)) ∙ turned b in
     let is : w ≡ with_sign a (neg_ℤ b) =
-          h ∙ ap (λ (z : ℤ). with_sign z (to_z w128 (of_z w128 (pos 0 -ℤ to_z w128 (of_z w128 y))))) (ap (λ (z : ℤ). to_z w128 (of_z w128 z)) i ∙ read_back w128 a (omega arith))
-          ∙ ap (with_sign a) minus in
+    h ∙ ap (λ (z : ℤ). with_sign z (to_z w128 (of_z w128 (pos 0 -ℤ to_z w128 (of_z w128 y))))) (ap (λ (z : ℤ). to_z w128 (of_z w128 z)) i ∙ read_back w128 a (omega arith))
+    ∙ ap (with_sign a) minus in
     ap (λ (z : ℤ). to_z w128 (of_z w128 z)) is ∙ read_back w128 (with_sign a (neg_ℤ b)) (omega (arith, with_sign-abs a (neg_ℤ b), negated_size b))
   where
     turned : (n : ℤ) → pos 0 -ℤ n ≡ neg_ℤ n
     turned n = omega (arith, ints)
+
     less : (n : ℤ) → unsigned_abs (pos 0 -ℤ n) ≡ unsigned_abs n
     less n = omega (arith, ints)
+
     negated_size : (n : ℤ) → unsigned_abs (neg_ℤ n) ≡ unsigned_abs n
     negated_size n = omega (arith, ints)
 
@@ -38,9 +40,9 @@ loop-place-preserved c =
     let column_size : unsigned_abs (number_at now c.args.column) < 2 ^ 89 = subst (λ (n : ℤ). unsigned_abs n < 2 ^ 89) (sym h.column_kept) (c.requires.sizes c.args.column) in
     let place_size : unsigned_abs (number_at now c.loop-place.place) < 2 ^ 89 = subst (λ (n : ℤ). unsigned_abs n < 2 ^ 89) (sym (h.rest c.loop-place.place (omega arith))) (c.requires.sizes c.loop-place.place) in
     elim c.if-place-column.branch [
-      then-place-column w ↦
-        left_along c.args.column old now w.set.new.self c.if-place-column.self c.loop-place.place _ w.self-is w.set.ensures
-        (negated_back w.with_sign-number.result w.get.result w.get-then-place-column.result (number_at now c.args.column) (number_at now c.loop-place.place) w.with_sign-number.ensures w.get.ensures w.get-then-place-column.ensures column_size place_size)
-        h w.if-place-column.true (omega arith)
-    | else-place-column w ↦ subst (λ (next : List ℤ). IsLeftTo c.args.column old next (c.loop-place.place + 1)) (sym w.self-is) (left_past_column _ _ _ _ h (omega arith))
+      | then-place-column w ↦
+          left_along c.args.column old now w.set.new.self c.if-place-column.self c.loop-place.place _ w.self-is w.set.ensures
+          (negated_back w.with_sign-number.result w.get.result w.get-then-place-column.result (number_at now c.args.column) (number_at now c.loop-place.place) w.with_sign-number.ensures w.get.ensures w.get-then-place-column.ensures column_size place_size)
+          h w.if-place-column.true (omega arith)
+      | else-place-column w ↦ subst (λ (next : List ℤ). IsLeftTo c.args.column old next (c.loop-place.place + 1)) (sym w.self-is) (left_past_column _ _ _ _ h (omega arith))
     ]
