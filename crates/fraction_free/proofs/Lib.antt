@@ -5,3 +5,4 @@ pub mod Values
 pub mod Signs
 pub mod PivotKept
 pub mod LineSteps
+pub mod Empty
