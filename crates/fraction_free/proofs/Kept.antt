@@ -1,6 +1,6 @@
 -- What every dictionary keeps gives what callers see of it.
 use Rattle.std.proofs.Common.{◌≡◌, ◌∙◌, ◌↔◌, ◌≢◌, inl, inr, lit<, ◌^◌, ◌-ℤ◌, set, ℕ, ◌+◌, ◌*◌, ◌<◌, ◌≤◌, ℤ, pos, ◌*ℤ◌, unsigned_abs, List, [], ◌∷◌, ◌++◌, length, take, drop, map, get_or, sym, ap, subst, refl, arith}
-use Rattle.std.proofs.lemmas.List.{length-map, length-take-le, length-drop, get_or-drop, take_more, take-append-drop, drop_more, get_or_past, length-set, get_or-set_same, get_or-set_other}
+use Rattle.std.proofs.lemmas.List.{length-map, length-take-le, length-drop, get_or-drop, take_more, take-append-drop, drop_more, get_or_read, get_or_past, length-set, get_or-set_same, get_or-set_other}
 use Rattle.std.proofs.lemmas.Bool.{cases_eq, cases_lt}
 use Rattle.std.specs.List.{All}
 use Rattle.wide_step.specs.Quotient.{HasQuotient}
@@ -147,3 +147,8 @@ can_exchange m l s order lines at column t at_in below nonzero = record {
     quotient row place inside place_in other =
         let q = pivot_divides s entering (get_or lines at []) (table_row m l (get_or order (m + 1 + row) 0)) (get_or lines row []) rows column place t.scale_is (t.lines_are at at_in) (t.lines_are row inside) (omega (arith, rows_len, below)) (omega (arith, rows_len)) other nonzero in
         record { quotient = q.0; exact = q.1; size = subst (λ n. n < 2 ^ 126) (sym q.2) (bounded row place inside place_in) }
+
+-- a line that was read
+pub read_len : (m : ℕ) (l : List LoadedRow) (s : ℤ) (order : List ℕ) (lines : List (List ℤ)) (row : ℕ) (line : List ℤ) → IsMinorTableau m l s order lines → row < length l
+    → line ≡ get_or lines row line → length line ≡ m + 1
+read_len m l s order lines row line t inside is = ap length (get_or_read lines row line (omega (arith, t.lines_len)) is []) ∙ line_len m l s order lines row t inside
