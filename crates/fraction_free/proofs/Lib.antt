@@ -6,3 +6,5 @@ pub mod Signs
 pub mod PivotKept
 pub mod LineSteps
 pub mod Empty
+pub mod Sums
+pub mod SlackLine

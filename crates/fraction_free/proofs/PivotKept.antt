@@ -251,11 +251,12 @@ exchange_back m l s order lines new_s new_order new_lines row column x t e h oth
 -- ---- from what the code does
 
 pub swapped_at : (xs ys : List ℕ) (i j : ℕ) → i < length xs → j < length xs → ys ≡ swap xs i j → SwappedAt xs ys i j
-swapped_at xs ys i j i_below j_below e =
-    ( (λ d. (swapped_from_swap xs ys i j d i_below j_below e).0)
-    , (λ d. (swapped_from_swap xs ys i j d i_below j_below e).1)
-    , (λ k d not_i not_j. (swapped_from_swap xs ys i j d i_below j_below e).2 k not_i not_j)
-    , (λ d. e ∙ sym (swap_is xs i j d i_below j_below)) )
+swapped_at xs ys i j i_below j_below e = (
+  (λ d. (swapped_from_swap xs ys i j d i_below j_below e).0),
+  (λ d. (swapped_from_swap xs ys i j d i_below j_below e).1),
+  (λ k d not_i not_j. (swapped_from_swap xs ys i j d i_below j_below e).2 k not_i not_j),
+  (λ d. e ∙ sym (swap_is xs i j d i_below j_below)),
+)
 
 pub exchange_from : (m : ℕ) (l : List LoadedRow) (s t : ℤ) (order new_order : List ℕ) (lines new_lines : List (List ℤ)) (row column n q : ℕ) (entry_is w new_s : ℤ)
     → IsMinorTableau m l s order lines → row < length l → column < m → entry (get_or lines row []) column ≢ pos 0
@@ -287,7 +288,7 @@ exchanged_back_all m l s places lines new_s new_places new_lines row column a b 
     let new = exchange_keeps m l s places.order lines new_s new_places.order new_lines row column k x in
     satisfies_from m l s places.order lines a b e f v k.order_len k.constant
     (exchange_back m l s places.order lines new_s new_places.order new_lines row column v k x
-      (equations_of m l new_s new_places.order new_lines a b e f v new.order_len new.constant h))
+    (equations_of m l new_s new_places.order new_lines a b e f v new.order_len new.constant h))
 
 pub exchanged_kept : (m : ℕ) (l : List LoadedRow) (s : ℤ) (places : Arranged) (lines : List (List ℤ)) (new_s : ℤ) (new_places : Arranged) (new_lines : List (List ℤ)) (row column a b c d new_c e f : ℕ)
     → IsKept m l s places lines a b c d e f → IsExchange m s places.order lines new_s new_places.order new_lines row column → new_places.room ≡ places.room → new_c ≡ c
@@ -327,5 +328,6 @@ pivoted_from m l s order lines new_s new_order new_lines row column a b e f x = 
   where
     entering : ℕ
     entering = get_or order (m + 1 + row) 0
+
     leaving : ℕ
     leaving = get_or order column 0

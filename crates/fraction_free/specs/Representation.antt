@@ -1,6 +1,6 @@
 -- How a dictionary keeps what it promises: scale and entries are minors of the table of its variables.
 -- The table has a row for each variable, and a column for each increment and one for the constant 1.
-use Rattle.std.specs.Prelude.{ℕ, ◌+◌, ◌-◌, ◌≡◌, ◌<◌, ◌≤◌, List, [], ◌∷◌, ◌++◌, length, take, drop, map, slice_index, slice_index_or, ℤ, pos, neg_ℤ, ◌+ℤ◌, ◌-ℤ◌, ◌*ℤ◌, ◌≤ℤ◌, ◌≢◌, ◌^◌, unsigned_abs, fold, if◌then◌else◌, ◌==◌, nat_le}
+use Rattle.std.specs.Prelude.{ℕ, ◌+◌, ◌-◌, ◌≡◌, ◌<◌, ◌≤◌, List, [], ◌∷◌, ◌++◌, length, take, drop, map, slice_index, slice_index_or, ℤ, pos, neg_ℤ, ◌+ℤ◌, ◌-ℤ◌, ◌*ℤ◌, ◌≤ℤ◌, ◌≢◌, ◌^◌, unsigned_abs, fold, if◌then◌else◌, ◌==◌, nat_le, nat_lt, slice_set, replicate}
 use Rattle.std.specs.List.{range_with_len}
 use Rattle.wide_step.specs.Quotient.{HasQuotient}
 use Rattle.fraction_free.specs.Changes.{number_at, IsOtherLine, IsPivotLine}
@@ -99,3 +99,13 @@ pub record AreExchanged (scale : ℤ) (at column : ℕ) (old new : List (List �
   pub pivot_line : IsPivotLine scale column (slice_index_or old at []) (slice_index_or new at [])
   pub other_lines : (other : ℕ) → other < length old → other ≢ at
       → IsOtherLine scale column (slice_index_or old at []) (slice_index_or old other []) (slice_index_or new other [])
+
+-- the factors of the variable at a place: of a column it is the scale at that column, and of a row it is the row's line
+abbrev pub factors_at : ℤ → List (List ℤ) → ℕ → ℕ → List ℤ
+factors_at scale lines width place =
+    if nat_lt place width then slice_set (replicate width (pos 0)) place scale else slice_index_or lines (place - width) []
+
+-- a multiple of other numbers is added to each
+pub record IsAdded (times : ℤ) (old other new : List ℤ) : Type 0 where
+  pub len : length new ≡ length old
+  pub sums : (at : ℕ) → at < length old → number_at new at ≡ number_at old at +ℤ times *ℤ number_at other at

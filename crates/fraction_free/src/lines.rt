@@ -139,7 +139,7 @@ impl Line {
     /// Adds a multiple of another line.
     pub fn add(&mut self, other: &Line, times: i128)
         requires len { length other.now ≡ length self.old }
-        requires times { unsigned_abs times ≤ 1 }
+        requires times { unsigned_abs times ≤ 25 }
         requires sizes { (place : ℕ) → unsigned_abs (number_at self.old place) < 2 ^ 100 }
         requires other_sizes { (place : ℕ) → unsigned_abs (number_at other.now place) < 2 ^ 89 }
         ensures len { length self.new ≡ length self.old }

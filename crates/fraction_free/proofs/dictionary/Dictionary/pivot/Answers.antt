@@ -22,7 +22,7 @@ pivot_lines-entry-requires-clause-exact c =
     subst (λ (z : ℤ). CanExchange z (c.args.row - 1) (c.from-column.result - 1) inside.lines.items)
     (sym (read_back w128 inside.scale (omega (arith, scale_fits inside.columns inside.loaded.items inside.scale inside.places.order inside.lines.items k.minors))))
     (can_exchange inside.columns inside.loaded.items inside.scale inside.places.order inside.lines.items (c.args.row - 1) (c.from-column.result - 1) k.minors (omega arith) (omega arith)
-      (nonzero_of _ c.args.self.now (c.args.row - 1) c.args.col c.from-column.result c.self.view_is c.from-column.ensures c.requires.entry))
+    (nonzero_of _ c.args.self.now (c.args.row - 1) c.args.col c.from-column.result c.self.view_is c.from-column.ensures c.requires.entry))
 
 exchanged : (c : After-swap) → IsExchange c.self.inside.columns c.self.inside.scale c.self.inside.places.order c.self.inside.lines.items
     (to_z w128 (of_z w128 c.with_sign-self-inside.result)) c.swap.new.self.order c.pivot_lines-entry.new.lines.items (c.args.row - 1) (c.from-column.result - 1)
@@ -54,19 +54,20 @@ returns-clause-pivoted c =
     let inside = c.self.inside in
     pivoted_along _ c.args.self.now _ (c.args.row - 1) c.from-column.result c.args.col c.self.view_is c.from-column.ensures
     (pivoted_from inside.columns inside.loaded.items inside.scale inside.places.order inside.lines.items (to_z w128 (of_z w128 c.with_sign-self-inside.result)) c.swap.new.self.order c.pivot_lines-entry.new.lines.items
-      (c.args.row - 1) (c.from-column.result - 1) inside.room_columns inside.room_rows inside.loads inside.added (exchanged c))
+    (c.args.row - 1) (c.from-column.result - 1) inside.room_columns inside.room_rows inside.loads inside.added (exchanged c))
 
 pub returns-clause-solutions : goal.returns-clause-solutions
 returns-clause-solutions c =
     let inside = c.self.inside in
     let k = c.self.invariant in
     let new = invariant_of-self c in
-    λ x.
-      ( (λ h. subst (λ (t : Tableau). Satisfies t x) c.self.view_is
+    λ x. (
+      (λ h. subst (λ (t : Tableau). Satisfies t x) c.self.view_is
           (exchanged_back_all inside.columns inside.loaded.items inside.scale inside.places inside.lines.items (to_z w128 (of_z w128 c.with_sign-self-inside.result)) c.swap.new.self c.pivot_lines-entry.new.lines.items
-            (c.args.row - 1) (c.from-column.result - 1) inside.room_columns inside.room_rows inside.loads inside.added x k.minors (exchanged c) h))
-      , (λ h. satisfied inside.columns inside.loaded.items (to_z w128 (of_z w128 c.with_sign-self-inside.result)) c.swap.new.self.order c.pivot_lines-entry.new.lines.items
-            inside.room_columns inside.room_rows inside.loads inside.added x new.minors (k.solutions x (subst (λ (t : Tableau). Satisfies t x) (sym c.self.view_is) h))) )
+          (c.args.row - 1) (c.from-column.result - 1) inside.room_columns inside.room_rows inside.loads inside.added x k.minors (exchanged c) h)),
+      (λ h. satisfied inside.columns inside.loaded.items (to_z w128 (of_z w128 c.with_sign-self-inside.result)) c.swap.new.self.order c.pivot_lines-entry.new.lines.items
+          inside.room_columns inside.room_rows inside.loads inside.added x new.minors (k.solutions x (subst (λ (t : Tableau). Satisfies t x) (sym c.self.view_is) h))),
+    )
 
 pub returns-clause-dictionary : goal.returns-clause-dictionary
 returns-clause-dictionary c = dictionary_from_kept _ _ _ _ _ _ _ _ _ _ _ (invariant_of-self c)
