@@ -8,3 +8,4 @@ pub mod LineSteps
 pub mod Empty
 pub mod Sums
 pub mod SlackLine
+pub mod AddRow
