@@ -7,7 +7,8 @@ use Rattle.minors.specs.Combination.{dot as dot_of}
 use Rattle.minors.proofs.Ring.{cancel}
 use Rattle.fraction_free.specs.declared.loaded.LoadedRow.{LoadedRow}
 use Rattle.fraction_free.specs.Arrangement.{IsArrangement, Arranged}
-use Rattle.fraction_free.specs.Tableau.{IsLoadable, HasSlacks, Satisfies, loaded_at, no_row, slack_of}
+use Rattle.fraction_free.specs.Changes.{AddsRow, next_count}
+use Rattle.fraction_free.specs.Tableau.{Tableau, IsLoadable, HasSlacks, Satisfies, loaded_at, no_row, slack_of}
 use Rattle.fraction_free.specs.Representation.{unit, row_of, table_row, square_of, tableau_of, IsMinorTableau, IsKept, CanCombine}
 use Rattle.fraction_free.proofs.Table.{table_row-constant, table_row-increment, table_row-slack}
 use Rattle.fraction_free.proofs.Values.{combination_value, slack_value, point_of}
@@ -165,3 +166,24 @@ can_combine m l s order lines t = record {
   len = λ row below. line_len m l s order lines row t (omega (arith, t.lines_len));
   sizes = λ row place. number_fits m l s order lines row place t;
 }
+
+pub added_view : (m : ℕ) (l new_l : List LoadedRow) (s : ℤ) (places new_places : Arranged) (lines new_lines : List (List ℤ)) (row : LoadedRow) (line : List ℤ) (a b e f g : ℕ) (old : Tableau)
+    → tableau_of m l s places.order lines a b e f ≡ old → length places.order ≡ m + 1 + length l
+    → new_l ≡ l ++ row ∷ [] → new_lines ≡ lines ++ line ∷ [] → new_places ≡ record places { order = places.order ++ length places.order ∷ [] } → g ≡ next_count f
+    → AddsRow old (tableau_of m new_l s new_places.order new_lines a b e g) row
+added_view m l new_l s places new_places lines new_lines row line a b e f g old is len l_is lines_are places_are count =
+    subst (λ (t : Tableau). AddsRow t (tableau_of m new_l s new_places.order new_lines a b e g) row) is (record { line = line; is = new })
+  where
+    order : List ℕ
+    order = places.order
+    columns : take m (order ++ length order ∷ []) ≡ take m order
+    columns = take-append-le m order (length order ∷ []) (omega arith)
+    rows : drop (m + 1) (order ++ length order ∷ []) ≡ drop (m + 1) order ++ (m + 1 + length l) ∷ []
+    rows = drop-append-le (m + 1) order (length order ∷ []) (omega arith) ∙ ap (λ n. drop (m + 1) order ++ n ∷ []) len
+    new : tableau_of m new_l s new_places.order new_lines a b e g ≡ record (tableau_of m l s order lines a b e f) {
+      loaded = l ++ row ∷ [];
+      basic = drop (m + 1) order ++ (m + 1 + length l) ∷ [];
+      lines = lines ++ line ∷ [];
+      added = next_count f;
+    }
+    new = rw (l_is, lines_are, places_are, count, columns, rows) refl

@@ -58,10 +58,13 @@ loop-variable-preserved c =
           (k_is ∙ sym (get_or_from_slice_get c.args.coefficients.now (c.loop-variable.variable - 1) c.item.result (pos 0) c.item.ensures.value)) back added t (v.combination loaded t);
     }
 
-pub returns : goal.returns
-returns c =
+pub returns-clause-line : goal.returns-clause-line
+returns-clause-line c =
     let v = c.loop-variable.invariant in
     λ loaded k.
       last_line c.args.columns loaded c.args.scale (to_z w128 (of_z w128 c.args.scale)) c.args.places.now.order c.args.lines.now c.args.coefficients.now c.loop-variable.line c.args.least (to_z w8 (of_z w8 c.args.least))
       (c.loop-variable.variable - 1) (read_back w128 c.args.scale (omega (arith, c.requires.can.scale_size))) (to_z-of_z w8 c.args.least c.ranges.least)
-      (omega (arith, c.from-width.ensures)) c.requires.row.len (v.combination loaded) k
+      (omega (arith, c.from-width.ensures)) c.requires.len (v.combination loaded) k
+
+pub returns-clause-row : goal.returns-clause-row
+returns-clause-row c = record { coefficients = c.constant_of-constant.ensures.range; len = c.requires.len; least = c.requires.least }
