@@ -55,7 +55,7 @@ square_same m l more order longer h len columns below =
 -- ---- a row more
 
 -- a combination along equations of its parts
-moved : (a : ℤ) (r q f g : List ℤ) (xs ys : List (List ℤ)) → r ≡ q → f ≡ g → xs ≡ ys → IsCombination a q g ys → IsCombination a r f xs
+pub moved : (a : ℤ) (r q f g : List ℤ) (xs ys : List (List ℤ)) → r ≡ q → f ≡ g → xs ≡ ys → IsCombination a q g ys → IsCombination a r f xs
 moved a r q f g xs ys j k n comb = rw (j, k, n) comb
 
 pub added_minors : (m : ℕ) (l : List LoadedRow) (s : ℤ) (order : List ℕ) (lines : List (List ℤ)) (row : LoadedRow) (line : List ℤ)

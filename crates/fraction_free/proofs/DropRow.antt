@@ -1,0 +1,132 @@
+-- Rows that change places, and the last row gone, keep what a dictionary keeps.
+use Rattle.std.proofs.Common.{◌≡◌, ◌≢◌, ◌∙◌, ◌⊎◌, inl, inr, ℕ, zero, suc, ◌+◌, ◌-◌, ◌<◌, ◌≤◌, cond, eqb, ℤ, pos, ◌+ℤ◌, ◌-ℤ◌, ◌*ℤ◌, List, [], ◌∷◌, ◌++◌, length, take, drop, map, get_or, set, sym, ap, subst, refl, arith}
+use Rattle.std.proofs.lemmas.List.{length-take-le, get_or-take, take-set-le, take-take}
+use Rattle.std.proofs.lemmas.Bool.{cases_eq, cases_lt}
+use Rattle.std.proofs.lemmas.Bool.Decides.{nat_tests}
+use Rattle.std.specs.List.{SwappedAt, range_with_len}
+use Rattle.minors.specs.Combination.{IsCombination, IsScale}
+use Rattle.minors.specs.Combination.{dot as dot_of}
+use Rattle.minors.proofs.Ring.{cancel, mul-add, mul_swap, mul_zero, mul-sub, sums}
+use Rattle.criteria_model.specs.Rows.{dot}
+use Rattle.fraction_free.specs.declared.loaded.LoadedRow.{LoadedRow}
+use Rattle.fraction_free.specs.Arrangement.{IsArrangement, Arranged}
+use Rattle.fraction_free.specs.Tableau.{Tableau, IsLoadable, HasSlacks, Satisfies, loaded_at, no_row, slack_of, vector_of}
+use Rattle.fraction_free.specs.Representation.{table_row, square_of, tableau_of, IsMinorTableau, IsKept}
+use Rattle.fraction_free.proofs.Values.{same_dot}
+use Rattle.fraction_free.proofs.AddRow.{BeginsWith, table_row_same, square_same, moved}
+use Rattle.fraction_free.proofs.PivotKept.{Equations, equations_of, satisfies_from}
+
+-- ---- two rows change places
+
+pub record AreRowsSwapped (m : ℕ) (order : List ℕ) (lines : List (List ℤ)) (new_order : List ℕ) (new_lines : List (List ℤ)) (first second : ℕ) : Type 0 where
+  pub first_below : first < length lines
+  pub second_below : second < length lines
+  pub order_len : length new_order ≡ length order
+  pub lines_len : length new_lines ≡ length lines
+  pub order_swapped : SwappedAt order new_order (m + 1 + first) (m + 1 + second)
+  pub lines_swapped : SwappedAt lines new_lines first second
+
+-- each row stands where another stood
+pub source : (m : ℕ) (order : List ℕ) (lines : List (List ℤ)) (new_order : List ℕ) (new_lines : List (List ℤ)) (first second : ℕ) → AreRowsSwapped m order lines new_order new_lines first second
+    → (row : ℕ) → row < length lines → (from : ℕ) × (from < length lines) × (get_or new_order (m + 1 + row) 0 ≡ get_or order (m + 1 + from) 0) × (get_or new_lines row [] ≡ get_or lines from [])
+source m order lines new_order new_lines first second h row below =
+    elim (cases_eq row first) [
+      | inl e ↦ (second, h.second_below, ap (λ k. get_or new_order (m + 1 + k) 0) e ∙ h.order_swapped.0 0, ap (λ k. get_or new_lines k []) e ∙ h.lines_swapped.0 [])
+      | inr ne ↦ elim (cases_eq row second) [
+        | inl f ↦ (first, h.first_below, ap (λ k. get_or new_order (m + 1 + k) 0) f ∙ h.order_swapped.1 0, ap (λ k. get_or new_lines k []) f ∙ h.lines_swapped.1 [])
+        | inr nf ↦ (row, below, h.order_swapped.2 (m + 1 + row) 0 (omega arith) (omega arith), h.lines_swapped.2 row [] ne nf)
+      ]
+    ]
+
+-- and each stands somewhere
+pub target : (m : ℕ) (order : List ℕ) (lines : List (List ℤ)) (new_order : List ℕ) (new_lines : List (List ℤ)) (first second : ℕ) → AreRowsSwapped m order lines new_order new_lines first second
+    → (row : ℕ) → row < length lines → (to : ℕ) × (to < length lines) × (get_or new_order (m + 1 + to) 0 ≡ get_or order (m + 1 + row) 0) × (get_or new_lines to [] ≡ get_or lines row [])
+target m order lines new_order new_lines first second h row below =
+    elim (cases_eq row first) [
+      | inl e ↦ (second, h.second_below, h.order_swapped.1 0 ∙ ap (λ k. get_or order (m + 1 + k) 0) (sym e), h.lines_swapped.1 [] ∙ ap (λ k. get_or lines k []) (sym e))
+      | inr ne ↦ elim (cases_eq row second) [
+        | inl f ↦ (first, h.first_below, h.order_swapped.0 0 ∙ ap (λ k. get_or order (m + 1 + k) 0) (sym f), h.lines_swapped.0 [] ∙ ap (λ k. get_or lines k []) (sym f))
+        | inr nf ↦ (row, below, h.order_swapped.2 (m + 1 + row) 0 (omega arith) (omega arith), h.lines_swapped.2 row [] ne nf)
+      ]
+    ]
+
+same_columns : (m : ℕ) (order : List ℕ) (lines : List (List ℤ)) (new_order : List ℕ) (new_lines : List (List ℤ)) (first second : ℕ) → AreRowsSwapped m order lines new_order new_lines first second
+    → take (m + 1) new_order ≡ take (m + 1) order
+same_columns m order lines new_order new_lines first second h =
+    ap (take (m + 1)) (h.order_swapped.3 0)
+    ∙ take-set-le (m + 1) (set order (m + 1 + first) (get_or order (m + 1 + second) 0)) (m + 1 + second) (get_or order (m + 1 + first) 0) (omega arith)
+    ∙ take-set-le (m + 1) order (m + 1 + first) (get_or order (m + 1 + second) 0) (omega arith)
+
+pub swapped_minors : (m : ℕ) (l : List LoadedRow) (s : ℤ) (order : List ℕ) (lines : List (List ℤ)) (new_order : List ℕ) (new_lines : List (List ℤ)) (first second : ℕ)
+    → IsMinorTableau m l s order lines → AreRowsSwapped m order lines new_order new_lines first second → IsArrangement new_order → IsMinorTableau m l s new_order new_lines
+swapped_minors m l s order lines new_order new_lines first second t h arranged = record {
+  columns_some = t.columns_some;
+  columns_most = t.columns_most;
+  lines_len = h.lines_len ∙ t.lines_len;
+  order_len = h.order_len ∙ t.order_len;
+  constant = h.order_swapped.2 m 0 (omega arith) (omega arith) ∙ t.constant;
+  rows = t.rows;
+  variables = arranged;
+  positive = t.positive;
+  scale_is = subst (IsScale s) (sym squares) t.scale_is;
+  lines_are = λ row below.
+      let from = source m order lines new_order new_lines first second h row (omega (arith, t.lines_len)) in
+      moved s _ _ (get_or new_lines row []) (get_or lines from.0 []) _ _ (ap (table_row m l) from.2) from.3 squares (t.lines_are from.0 (omega (arith, from.1, t.lines_len)));
+}
+  where
+    squares : square_of m l new_order ≡ square_of m l order
+    squares = ap (map (table_row m l)) (same_columns m order lines new_order new_lines first second h)
+
+pub swapped_equations : (m count : ℕ) (s : ℤ) (order : List ℕ) (lines : List (List ℤ)) (new_order : List ℕ) (new_lines : List (List ℤ)) (first second : ℕ) (x : ℕ → ℤ)
+    → AreRowsSwapped m order lines new_order new_lines first second → length lines ≡ count → Equations m count s new_order new_lines x → Equations m count s order lines x
+swapped_equations m count s order lines new_order new_lines first second x h len e row below =
+    let to = target m order lines new_order new_lines first second h row (omega arith) in
+    ap (λ k. s *ℤ x k) (sym to.2) ∙ e to.0 (omega (arith, to.1)) ∙ ap (λ (f : List ℤ). dot_of f (map x (take (m + 1) new_order))) to.3
+    ∙ ap (λ vs. dot_of (get_or lines row []) (map x vs)) (same_columns m order lines new_order new_lines first second h)
+
+-- ---- the last row gone, whose variable is the last slack
+
+begins_with_take : (l : List LoadedRow) (k : ℕ) → k ≤ length l → BeginsWith (take k l) l
+begins_with_take l k h = record {
+  len = omega (arith, length-take-le k l h);
+  same = λ row below. sym (get_or-take k l row no_row (omega (arith, length-take-le k l h)));
+}
+
+pub popped_minors : (m : ℕ) (l : List LoadedRow) (s : ℤ) (order : List ℕ) (lines : List (List ℤ)) (k : ℕ) → IsMinorTableau m l s order lines → length l ≡ k + 1
+    → IsArrangement (take (m + 1 + k) order) → IsMinorTableau m (take k l) s (take (m + 1 + k) order) (take k lines)
+popped_minors m l s order lines k t len arranged = record {
+  columns_some = t.columns_some;
+  columns_most = t.columns_most;
+  lines_len = length-take-le k lines (omega (arith, t.lines_len)) ∙ sym l_len;
+  order_len = o_len ∙ omega (arith, l_len);
+  constant = get_or-take (m + 1 + k) order m 0 (omega arith) ∙ t.constant;
+  rows = λ row below. subst (IsLoadable m) (begins.same row below) (t.rows row (omega (arith, l_len)));
+  variables = arranged;
+  positive = t.positive;
+  scale_is = subst (IsScale s) squares t.scale_is;
+  lines_are = λ row below.
+      let variable : get_or (take (m + 1 + k) order) (m + 1 + row) 0 ≡ get_or order (m + 1 + row) 0 = get_or-take (m + 1 + k) order (m + 1 + row) 0 (omega (arith, l_len)) in
+      let v_below : get_or (take (m + 1 + k) order) (m + 1 + row) 0 < length (take (m + 1 + k) order) = arranged.below (m + 1 + row) (omega (arith, o_len, l_len)) in
+      moved s _ _ (get_or (take k lines) row []) (get_or lines row []) _ _
+      (sym (table_row_same m (take k l) l (get_or (take (m + 1 + k) order) (m + 1 + row) 0) begins (omega (arith, o_len, l_len))) ∙ ap (table_row m l) variable)
+      (get_or-take k lines row [] (omega (arith, l_len))) (sym squares) (t.lines_are row (omega (arith, l_len)));
+}
+  where
+    l_len : length (take k l) ≡ k
+    l_len = length-take-le k l (omega arith)
+    o_len : length (take (m + 1 + k) order) ≡ m + 1 + k
+    o_len = length-take-le (m + 1 + k) order (omega (arith, t.order_len))
+    begins : BeginsWith (take k l) l
+    begins = begins_with_take l k (omega arith)
+    squares : square_of m l order ≡ square_of m (take k l) (take (m + 1 + k) order)
+    squares = square_same m (take k l) l (take (m + 1 + k) order) order begins (o_len ∙ omega (arith, l_len)) (sym (take-take (m + 1) (m + 1 + k) order (omega arith))) arranged.below
+
+-- sums of multiples
+dot_scaled : (s : ℤ) (x y : ℕ → ℤ) (f : List ℤ) (vs : List ℕ) → ((k : ℕ) → k < length vs → y (get_or vs k 0) ≡ s *ℤ x (get_or vs k 0)) → dot_of f (map y vs) ≡ s *ℤ dot_of f (map x vs)
+dot_scaled s x y [] vs h = sym (mul_zero s)
+dot_scaled s x y (c ∷ f) [] h = sym (mul_zero s)
+dot_scaled s x y (c ∷ f) (v ∷ vs) h =
+    ap (λ (n : ℤ). c *ℤ n +ℤ dot_of f (map y vs)) (h 0 (omega arith))
+    ∙ ap (λ (n : ℤ). c *ℤ (s *ℤ x v) +ℤ n) (dot_scaled s x y f vs (λ k below. h (suc k) (omega arith)))
+    ∙ ap (λ (n : ℤ). n +ℤ s *ℤ dot_of f (map x vs)) (mul_swap c s (x v))
+    ∙ sym (mul-add s (c *ℤ x v) (dot_of f (map x vs)))
