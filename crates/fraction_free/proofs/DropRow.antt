@@ -2,6 +2,7 @@
 use Rattle.std.proofs.Common.{◌≡◌, ◌≢◌, ◌∙◌, ◌⊎◌, inl, inr, ℕ, zero, suc, ◌+◌, ◌-◌, ◌<◌, ◌≤◌, cond, eqb, ℤ, pos, ◌+ℤ◌, ◌-ℤ◌, ◌*ℤ◌, List, [], ◌∷◌, ◌++◌, length, take, drop, map, get_or, set, sym, ap, subst, refl, arith}
 use Rattle.std.proofs.lemmas.List.{length-take-le, get_or-take, take-set-le, take-take}
 use Rattle.std.proofs.lemmas.Bool.{cases_eq, cases_lt}
+use Rattle.std.proofs.lemmas.List.FromFn.{length-range_with_len, get_or-range_with_len}
 use Rattle.std.proofs.lemmas.Bool.Decides.{nat_tests}
 use Rattle.std.specs.List.{SwappedAt, range_with_len}
 use Rattle.minors.specs.Combination.{IsCombination, IsScale}
@@ -130,3 +131,63 @@ dot_scaled s x y (c ∷ f) (v ∷ vs) h =
     ∙ ap (λ (n : ℤ). c *ℤ (s *ℤ x v) +ℤ n) (dot_scaled s x y f vs (λ k below. h (suc k) (omega arith)))
     ∙ ap (λ (n : ℤ). n +ℤ s *ℤ dot_of f (map x vs)) (mul_swap c s (x v))
     ∙ sym (mul-add s (c *ℤ x v) (dot_of f (map x vs)))
+
+slack_scaled : (m : ℕ) (row : LoadedRow) (s : ℤ) (x y : ℕ → ℤ) → ((v : ℕ) → v ≤ m → y v ≡ s *ℤ x v) → slack_of m row y ≡ s *ℤ slack_of m row x
+slack_scaled m row s x y h =
+    let plus : (k : ℕ) → k < length (range_with_len 1 m) → y (get_or (range_with_len 1 m) k 0) +ℤ y 0 ≡ s *ℤ (x (get_or (range_with_len 1 m) k 0) +ℤ x 0) =
+          (λ k below.
+            let v : get_or (range_with_len 1 m) k 0 ≤ m = omega (arith, length-range_with_len 1 m, get_or-range_with_len 1 m k 0 (omega (arith, length-range_with_len 1 m))) in
+            ap (λ (n : ℤ). n +ℤ y 0) (h (get_or (range_with_len 1 m) k 0) v) ∙ ap (λ (n : ℤ). s *ℤ x (get_or (range_with_len 1 m) k 0) +ℤ n) (h 0 (omega arith))
+            ∙ sym (mul-add s (x (get_or (range_with_len 1 m) k 0)) (x 0))) in
+    ap (λ (n : ℤ). n -ℤ row.least *ℤ y 0)
+      (same_dot row.coefficients (vector_of m y) ∙ dot_scaled s (λ j. x j +ℤ x 0) (λ j. y j +ℤ y 0) row.coefficients (range_with_len 1 m) plus
+        ∙ ap (λ (n : ℤ). s *ℤ n) (sym (same_dot row.coefficients (vector_of m x))))
+    ∙ ap (λ (n : ℤ). s *ℤ dot row.coefficients (vector_of m x) -ℤ n) (ap (λ (n : ℤ). row.least *ℤ n) (h 0 (omega arith)) ∙ mul_swap row.least s (x 0))
+    ∙ sym (mul-sub s (dot row.coefficients (vector_of m x)) (row.least *ℤ x 0))
+
+-- what satisfies the shorter dictionary, times the scale and with a value for the last slack, satisfies the longer one
+pub popped_solutions : (m : ℕ) (l : List LoadedRow) (s : ℤ) (order : List ℕ) (lines : List (List ℤ)) (k : ℕ) (x : ℕ → ℤ) → IsMinorTableau m l s order lines → length l ≡ k + 1
+    → get_or order (m + 1 + k) 0 ≡ m + 1 + k → ((y : ℕ → ℤ) → Equations m (length l) s order lines y → HasSlacks m l y)
+    → Equations m k s (take (m + 1 + k) order) (take k lines) x → HasSlacks m (take k l) x
+popped_solutions m l s order lines k x t len last solutions h = record { each = λ row below. slack row (omega (arith, length-take-le k l (omega arith))) }
+  where
+    n : ℕ
+    n = m + 1 + k
+    columns : List ℕ
+    columns = take (m + 1) order
+    value : ℤ
+    value = dot_of (get_or lines k []) (map x columns)
+    y : ℕ → ℤ
+    y v = cond (eqb v n) value (s *ℤ x v)
+    y_last : (v : ℕ) → v ≡ n → y v ≡ value
+    y_last v e = grind (arith, nat_tests)
+    y_other : (v : ℕ) → v ≢ n → y v ≡ s *ℤ x v
+    y_other v ne = grind (arith, nat_tests)
+    not_last : (at : ℕ) → at < n → get_or order at 0 ≢ n
+    not_last at below e =
+        absurd (omega (arith, sym (t.variables.back at (omega (arith, t.order_len))) ∙ ap t.variables.place (e ∙ sym last) ∙ t.variables.back n (omega (arith, t.order_len))))
+    scaled : (f : List ℤ) → dot_of f (map y columns) ≡ s *ℤ dot_of f (map x columns)
+    scaled f = dot_scaled s x y f columns
+        (λ j below.
+          let j_in : j < m + 1 = omega (arith, length-take-le (m + 1) order (omega (arith, t.order_len))) in
+          y_other (get_or columns j 0) (λ e. not_last j (omega arith) (sym (get_or-take (m + 1) order j 0 j_in) ∙ e)))
+    equation : (row : ℕ) → (row ≡ k) ⊎ (row ≢ k) → row < length l → s *ℤ y (get_or order (m + 1 + row) 0) ≡ dot_of (get_or lines row []) (map y columns)
+    equation row (inl e) below =
+        ap (λ (z : ℤ). s *ℤ z) (y_last (get_or order (m + 1 + row) 0) (ap (λ i. get_or order (m + 1 + i) 0) e ∙ last))
+        ∙ sym (scaled (get_or lines k [])) ∙ ap (λ i. dot_of (get_or lines i []) (map y columns)) (sym e)
+    equation row (inr ne) below =
+        let inside : row < k = omega arith in
+        ap (λ (z : ℤ). s *ℤ z) (y_other (get_or order (m + 1 + row) 0) (not_last (m + 1 + row) (omega arith)))
+        ∙ ap (λ (z : ℤ). s *ℤ z)
+          (ap (λ v. s *ℤ x v) (sym (get_or-take n order (m + 1 + row) 0 (omega arith))) ∙ h row inside
+            ∙ ap (λ (f : List ℤ). dot_of f (map x (take (m + 1) (take n order)))) (get_or-take k lines row [] inside)
+            ∙ ap (λ vs. dot_of (get_or lines row []) (map x vs)) (take-take (m + 1) n order (omega arith)))
+        ∙ sym (scaled (get_or lines row []))
+    slacks : HasSlacks m l y
+    slacks = solutions y (λ row below. equation row (cases_eq row k) below)
+    slack : (row : ℕ) → row < k → x (m + 1 + row) ≡ slack_of m (loaded_at (take k l) row) x
+    slack row below =
+        cancel s (x (m + 1 + row)) (slack_of m (loaded_at (take k l) row) x) t.scale_is.nonzero
+        (sym (y_other (m + 1 + row) (omega arith)) ∙ slacks.each row (omega arith)
+          ∙ slack_scaled m (loaded_at l row) s x y (λ v small. y_other v (omega arith))
+          ∙ ap (λ (r : LoadedRow). s *ℤ slack_of m r x) (sym (get_or-take k l row no_row below)))
