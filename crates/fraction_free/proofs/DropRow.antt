@@ -191,3 +191,31 @@ popped_solutions m l s order lines k x t len last solutions h = record { each = 
         (sym (y_other (m + 1 + row) (omega arith)) ∙ slacks.each row (omega arith)
           ∙ slack_scaled m (loaded_at l row) s x y (λ v small. y_other v (omega arith))
           ∙ ap (λ (r : LoadedRow). s *ℤ slack_of m r x) (sym (get_or-take k l row no_row below)))
+
+pub dropped_kept : (m : ℕ) (l new_l : List LoadedRow) (s : ℤ) (places new_places : Arranged) (lines new_lines mid_lines : List (List ℤ)) (mid_order : List ℕ) (a b c d e f new_c new_d k first : ℕ)
+    → IsKept m l s places lines a b c d e f → length l ≡ k + 1
+    → AreRowsSwapped m places.order lines mid_order mid_lines first k → IsArrangement mid_order → get_or mid_order (m + 1 + k) 0 ≡ m + 1 + k
+    → new_l ≡ take k l → new_lines ≡ take k mid_lines → new_places.order ≡ take (m + 1 + k) mid_order → new_places.room ≡ places.room → IsArrangement new_places.order
+    → c ≤ new_c → d ≤ new_d → IsKept m new_l s new_places new_lines a b new_c new_d e f
+dropped_kept m l new_l s places new_places lines new_lines mid_lines mid_order a b c d e f new_c new_d k first kept len swapped mid_arranged last l_is lines_is order_is room_is arranged c_room d_room =
+    let t = kept.minors in
+    let mid = swapped_minors m l s places.order lines mid_order mid_lines first k t swapped mid_arranged in
+    let new = popped_minors m l s mid_order mid_lines k mid len (subst IsArrangement order_is arranged) in
+    let new_len : length (take k l) ≡ k = length-take-le k l (omega arith) in
+    record {
+      minors = rw (l_is, lines_is, order_is) new;
+      solutions = rw (l_is, lines_is, order_is)
+          (λ x h.
+            popped_solutions m l s mid_order mid_lines k x mid len last
+            (λ y eqs. kept.solutions y (satisfies_from m l s places.order lines a b e f y t.order_len t.constant
+              (swapped_equations m (length l) s places.order lines mid_order mid_lines first k y swapped t.lines_len eqs)))
+            (subst (λ n. Equations m n s (take (m + 1 + k) mid_order) (take k mid_lines) x) new_len
+              (equations_of m (take k l) s (take (m + 1 + k) mid_order) (take k mid_lines) a b e f x new.order_len new.constant h)));
+      columns_room = kept.columns_room;
+      columns_most = kept.columns_most;
+      rows_room = omega (arith, ap length l_is, kept.rows_room);
+      rows_most = kept.rows_most;
+      places_room = omega (arith, kept.places_room);
+      has_lines_room = omega (arith, kept.has_lines_room);
+      has_loaded_room = omega (arith, kept.has_loaded_room);
+    }
