@@ -7,7 +7,7 @@ use Rattle.std.proofs.lemmas.Bool.Decides.{nat_tests}
 use Rattle.std.specs.List.{SwappedAt, range_with_len}
 use Rattle.minors.specs.Combination.{IsCombination, IsScale}
 use Rattle.minors.specs.Combination.{dot as dot_of}
-use Rattle.minors.proofs.Ring.{cancel, mul-add, mul_swap, mul_zero, mul-sub, sums}
+use Rattle.minors.proofs.Ring.{cancel, mul-add, mul_swap, mul_zero, zero_mul, mul-sub, sums}
 use Rattle.criteria_model.specs.Rows.{dot}
 use Rattle.fraction_free.specs.declared.loaded.LoadedRow.{LoadedRow}
 use Rattle.fraction_free.specs.Arrangement.{IsArrangement, Arranged}
@@ -115,10 +115,13 @@ popped_minors m l s order lines k t len arranged = record {
   where
     l_len : length (take k l) ≡ k
     l_len = length-take-le k l (omega arith)
+
     o_len : length (take (m + 1 + k) order) ≡ m + 1 + k
     o_len = length-take-le (m + 1 + k) order (omega (arith, t.order_len))
+
     begins : BeginsWith (take k l) l
     begins = begins_with_take l k (omega arith)
+
     squares : square_of m l order ≡ square_of m (take k l) (take (m + 1 + k) order)
     squares = square_same m (take k l) l (take (m + 1 + k) order) order begins (o_len ∙ omega (arith, l_len)) (sym (take-take (m + 1) (m + 1 + k) order (omega arith))) arranged.below
 
@@ -135,13 +138,13 @@ dot_scaled s x y (c ∷ f) (v ∷ vs) h =
 slack_scaled : (m : ℕ) (row : LoadedRow) (s : ℤ) (x y : ℕ → ℤ) → ((v : ℕ) → v ≤ m → y v ≡ s *ℤ x v) → slack_of m row y ≡ s *ℤ slack_of m row x
 slack_scaled m row s x y h =
     let plus : (k : ℕ) → k < length (range_with_len 1 m) → y (get_or (range_with_len 1 m) k 0) +ℤ y 0 ≡ s *ℤ (x (get_or (range_with_len 1 m) k 0) +ℤ x 0) =
-          (λ k below.
-            let v : get_or (range_with_len 1 m) k 0 ≤ m = omega (arith, length-range_with_len 1 m, get_or-range_with_len 1 m k 0 (omega (arith, length-range_with_len 1 m))) in
-            ap (λ (n : ℤ). n +ℤ y 0) (h (get_or (range_with_len 1 m) k 0) v) ∙ ap (λ (n : ℤ). s *ℤ x (get_or (range_with_len 1 m) k 0) +ℤ n) (h 0 (omega arith))
-            ∙ sym (mul-add s (x (get_or (range_with_len 1 m) k 0)) (x 0))) in
+    (λ k below.
+    let v : get_or (range_with_len 1 m) k 0 ≤ m = omega (arith, length-range_with_len 1 m, get_or-range_with_len 1 m k 0 (omega (arith, length-range_with_len 1 m))) in
+    ap (λ (n : ℤ). n +ℤ y 0) (h (get_or (range_with_len 1 m) k 0) v) ∙ ap (λ (n : ℤ). s *ℤ x (get_or (range_with_len 1 m) k 0) +ℤ n) (h 0 (omega arith))
+    ∙ sym (mul-add s (x (get_or (range_with_len 1 m) k 0)) (x 0))) in
     ap (λ (n : ℤ). n -ℤ row.least *ℤ y 0)
-      (same_dot row.coefficients (vector_of m y) ∙ dot_scaled s (λ j. x j +ℤ x 0) (λ j. y j +ℤ y 0) row.coefficients (range_with_len 1 m) plus
-        ∙ ap (λ (n : ℤ). s *ℤ n) (sym (same_dot row.coefficients (vector_of m x))))
+    (same_dot row.coefficients (vector_of m y) ∙ dot_scaled s (λ j. x j +ℤ x 0) (λ j. y j +ℤ y 0) row.coefficients (range_with_len 1 m) plus
+    ∙ ap (λ (n : ℤ). s *ℤ n) (sym (same_dot row.coefficients (vector_of m x))))
     ∙ ap (λ (n : ℤ). s *ℤ dot row.coefficients (vector_of m x) -ℤ n) (ap (λ (n : ℤ). row.least *ℤ n) (h 0 (omega arith)) ∙ mul_swap row.least s (x 0))
     ∙ sym (mul-sub s (dot row.coefficients (vector_of m x)) (row.least *ℤ x 0))
 
@@ -153,24 +156,32 @@ popped_solutions m l s order lines k x t len last solutions h = record { each = 
   where
     n : ℕ
     n = m + 1 + k
+
     columns : List ℕ
     columns = take (m + 1) order
+
     value : ℤ
     value = dot_of (get_or lines k []) (map x columns)
+
     y : ℕ → ℤ
     y v = cond (eqb v n) value (s *ℤ x v)
+
     y_last : (v : ℕ) → v ≡ n → y v ≡ value
     y_last v e = grind (arith, nat_tests)
+
     y_other : (v : ℕ) → v ≢ n → y v ≡ s *ℤ x v
     y_other v ne = grind (arith, nat_tests)
+
     not_last : (at : ℕ) → at < n → get_or order at 0 ≢ n
     not_last at below e =
         absurd (omega (arith, sym (t.variables.back at (omega (arith, t.order_len))) ∙ ap t.variables.place (e ∙ sym last) ∙ t.variables.back n (omega (arith, t.order_len))))
+
     scaled : (f : List ℤ) → dot_of f (map y columns) ≡ s *ℤ dot_of f (map x columns)
     scaled f = dot_scaled s x y f columns
         (λ j below.
-          let j_in : j < m + 1 = omega (arith, length-take-le (m + 1) order (omega (arith, t.order_len))) in
-          y_other (get_or columns j 0) (λ e. not_last j (omega arith) (sym (get_or-take (m + 1) order j 0 j_in) ∙ e)))
+        let j_in : j < m + 1 = omega (arith, length-take-le (m + 1) order (omega (arith, t.order_len))) in
+        y_other (get_or columns j 0) (λ e. not_last j (omega arith) (sym (get_or-take (m + 1) order j 0 j_in) ∙ e)))
+
     equation : (row : ℕ) → (row ≡ k) ⊎ (row ≢ k) → row < length l → s *ℤ y (get_or order (m + 1 + row) 0) ≡ dot_of (get_or lines row []) (map y columns)
     equation row (inl e) below =
         ap (λ (z : ℤ). s *ℤ z) (y_last (get_or order (m + 1 + row) 0) (ap (λ i. get_or order (m + 1 + i) 0) e ∙ last))
@@ -179,18 +190,20 @@ popped_solutions m l s order lines k x t len last solutions h = record { each = 
         let inside : row < k = omega arith in
         ap (λ (z : ℤ). s *ℤ z) (y_other (get_or order (m + 1 + row) 0) (not_last (m + 1 + row) (omega arith)))
         ∙ ap (λ (z : ℤ). s *ℤ z)
-          (ap (λ v. s *ℤ x v) (sym (get_or-take n order (m + 1 + row) 0 (omega arith))) ∙ h row inside
-            ∙ ap (λ (f : List ℤ). dot_of f (map x (take (m + 1) (take n order)))) (get_or-take k lines row [] inside)
-            ∙ ap (λ vs. dot_of (get_or lines row []) (map x vs)) (take-take (m + 1) n order (omega arith)))
+        (ap (λ v. s *ℤ x v) (sym (get_or-take n order (m + 1 + row) 0 (omega arith))) ∙ h row inside
+        ∙ ap (λ (f : List ℤ). dot_of f (map x (take (m + 1) (take n order)))) (get_or-take k lines row [] inside)
+        ∙ ap (λ vs. dot_of (get_or lines row []) (map x vs)) (take-take (m + 1) n order (omega arith)))
         ∙ sym (scaled (get_or lines row []))
+
     slacks : HasSlacks m l y
     slacks = solutions y (λ row below. equation row (cases_eq row k) below)
+
     slack : (row : ℕ) → row < k → x (m + 1 + row) ≡ slack_of m (loaded_at (take k l) row) x
     slack row below =
         cancel s (x (m + 1 + row)) (slack_of m (loaded_at (take k l) row) x) t.scale_is.nonzero
         (sym (y_other (m + 1 + row) (omega arith)) ∙ slacks.each row (omega arith)
-          ∙ slack_scaled m (loaded_at l row) s x y (λ v small. y_other v (omega arith))
-          ∙ ap (λ (r : LoadedRow). s *ℤ slack_of m r x) (sym (get_or-take k l row no_row below)))
+        ∙ slack_scaled m (loaded_at l row) s x y (λ v small. y_other v (omega arith))
+        ∙ ap (λ (r : LoadedRow). s *ℤ slack_of m r x) (sym (get_or-take k l row no_row below)))
 
 pub dropped_kept : (m : ℕ) (l new_l : List LoadedRow) (s : ℤ) (places new_places : Arranged) (lines new_lines mid_lines : List (List ℤ)) (mid_order : List ℕ) (a b c d e f new_c new_d k first : ℕ)
     → IsKept m l s places lines a b c d e f → length l ≡ k + 1
@@ -206,11 +219,11 @@ dropped_kept m l new_l s places new_places lines new_lines mid_lines mid_order a
       minors = rw (l_is, lines_is, order_is) new;
       solutions = rw (l_is, lines_is, order_is)
           (λ x h.
-            popped_solutions m l s mid_order mid_lines k x mid len last
-            (λ y eqs. kept.solutions y (satisfies_from m l s places.order lines a b e f y t.order_len t.constant
-              (swapped_equations m (length l) s places.order lines mid_order mid_lines first k y swapped t.lines_len eqs)))
-            (subst (λ n. Equations m n s (take (m + 1 + k) mid_order) (take k mid_lines) x) new_len
-              (equations_of m (take k l) s (take (m + 1 + k) mid_order) (take k mid_lines) a b e f x new.order_len new.constant h)));
+          popped_solutions m l s mid_order mid_lines k x mid len last
+          (λ y eqs. kept.solutions y (satisfies_from m l s places.order lines a b e f y t.order_len t.constant
+          (swapped_equations m (length l) s places.order lines mid_order mid_lines first k y swapped t.lines_len eqs)))
+          (subst (λ n. Equations m n s (take (m + 1 + k) mid_order) (take k mid_lines) x) new_len
+          (equations_of m (take k l) s (take (m + 1 + k) mid_order) (take k mid_lines) a b e f x new.order_len new.constant h)));
       columns_room = kept.columns_room;
       columns_most = kept.columns_most;
       rows_room = omega (arith, ap length l_is, kept.rows_room);
@@ -219,3 +232,55 @@ dropped_kept m l new_l s places new_places lines new_lines mid_lines mid_order a
       has_lines_room = omega (arith, kept.has_lines_room);
       has_loaded_room = omega (arith, kept.has_loaded_room);
     }
+
+-- ---- a nonbasic slack has a row with an entry that isn't 0
+
+dot_none : (x : ℕ → ℤ) (f : List ℤ) (vs : List ℕ) → ((k : ℕ) → k < length vs → (get_or f k (pos 0) ≡ pos 0) ⊎ (x (get_or vs k 0) ≡ pos 0)) → dot_of f (map x vs) ≡ pos 0
+dot_none x [] vs h = refl
+dot_none x (c ∷ f) [] h = refl
+dot_none x (c ∷ f) (v ∷ vs) h = none (c *ℤ x v) (dot_of f (map x vs)) (product (h 0 (omega arith))) (dot_none x f vs (λ k below. h (suc k) (omega arith)))
+  where
+    none : (p q : ℤ) → p ≡ pos 0 → q ≡ pos 0 → p +ℤ q ≡ pos 0
+    none p q i j = omega (arith, sums)
+
+    product : (c ≡ pos 0) ⊎ (x v ≡ pos 0) → c *ℤ x v ≡ pos 0
+    product (inl e) = ap (λ (n : ℤ). n *ℤ x v) e ∙ zero_mul (x v)
+    product (inr e) = ap (λ (n : ℤ). c *ℤ n) e ∙ mul_zero c
+
+pub slack_has_entry : (m : ℕ) (l : List LoadedRow) (s : ℤ) (order : List ℕ) (lines : List (List ℤ)) (column k : ℕ) → IsMinorTableau m l s order lines → length l ≡ k + 1 → column < m
+    → get_or order column 0 ≡ m + 1 + k → ((y : ℕ → ℤ) → Equations m (length l) s order lines y → HasSlacks m l y)
+    → ((row : ℕ) → row < length l → get_or (get_or lines row []) column (pos 0) ≡ pos 0) → ⊥
+slack_has_entry m l s order lines column k t len below is solutions zeros =
+    one_apart (sym (x_last (m + 1 + k) refl) ∙ slacks.each k (omega arith) ∙ slack_scaled m (loaded_at l k) (pos 0) x x (λ v small. x_other v (omega arith) ∙ sym (zero_mul (x v))) ∙ zero_mul (slack_of m (loaded_at l k) x))
+  where
+    n : ℕ
+    n = m + 1 + k
+
+    x : ℕ → ℤ
+    x v = cond (eqb v n) (pos 1) (pos 0)
+
+    x_last : (v : ℕ) → v ≡ n → x v ≡ pos 1
+    x_last v e = grind (arith, nat_tests)
+
+    x_other : (v : ℕ) → v ≢ n → x v ≡ pos 0
+    x_other v ne = grind (arith, nat_tests)
+
+    one_apart : pos 1 ≡ pos 0 → ⊥
+    one_apart e = omega (arith, sums)
+
+    apart : (at : ℕ) → at < length order → at ≢ column → get_or order at 0 ≢ n
+    apart at inside ne e = ne (sym (t.variables.back at inside) ∙ ap t.variables.place (e ∙ sym is) ∙ t.variables.back column (omega (arith, t.order_len)))
+
+    factor : (row : ℕ) → row < length l → (j : ℕ) → j < length (take (m + 1) order) → (get_or (get_or lines row []) j (pos 0) ≡ pos 0) ⊎ (x (get_or (take (m + 1) order) j 0) ≡ pos 0)
+    factor row inside j j_below =
+        let j_in : j < m + 1 = omega (arith, length-take-le (m + 1) order (omega (arith, t.order_len))) in
+        elim (cases_eq j column) [
+          | inl e ↦ inl (ap (λ i. get_or (get_or lines row []) i (pos 0)) e ∙ zeros row inside)
+          | inr ne ↦ inr (x_other (get_or (take (m + 1) order) j 0) (λ e. apart j (omega (arith, t.order_len)) ne (sym (get_or-take (m + 1) order j 0 j_in) ∙ e)))
+        ]
+
+    slacks : HasSlacks m l x
+    slacks = solutions x
+        (λ row inside.
+        ap (λ (z : ℤ). s *ℤ z) (x_other (get_or order (m + 1 + row) 0) (apart (m + 1 + row) (omega (arith, t.order_len)) (omega arith))) ∙ mul_zero s
+        ∙ sym (dot_none x (get_or lines row []) (take (m + 1) order) (factor row inside)))

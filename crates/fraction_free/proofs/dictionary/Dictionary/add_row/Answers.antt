@@ -49,10 +49,10 @@ invariant_of-self c =
     (record { coefficients = c.args.coefficients.now; least = c.args.least }) c.slack_line-line.result inside.room_columns inside.room_rows _ _ inside.loads inside.added _ _ c.saturating_add-self-inside.result k
     (loadable_along inside.columns c.args.coefficients.now c.args.least (to_z w8 (of_z w8 c.args.least)) least_is c.slack_line-line.ensures.row)
     (line_along inside.columns inside.loaded.items inside.scale (to_z w128 (of_z w128 inside.scale)) inside.places.order inside.lines.items c.as_slice.result.now c.args.coefficients.now c.slack_line-line.result
-      c.args.least (to_z w8 (of_z w8 c.args.least)) scale_is c.as_slice.ensures.value least_is c.slack_line-line.ensures.line k.minors)
+    c.args.least (to_z w8 (of_z w8 c.args.least)) scale_is c.as_slice.ensures.value least_is c.slack_line-line.ensures.line k.minors)
     (omega (arith, c.requires.room))
     (subst (λ (z : ℤ). c.push-pushed-2.new.self.items ≡ inside.loaded.items ++ record { coefficients = c.args.coefficients.now; least = z } ∷ []) least_is
-      (pushed _ inside.loaded.items c.push-pushed-2.new.self.items _ (c.push-pushed-2.ensures.succeeds loaded_room) c.push-pushed-2.ensures.items))
+    (pushed _ inside.loaded.items c.push-pushed-2.new.self.items _ (c.push-pushed-2.ensures.succeeds loaded_room) c.push-pushed-2.ensures.items))
     (pushed _ inside.lines.items c.push-pushed.new.self.items c.slack_line-line.result (c.push-pushed.ensures.succeeds lines_room) c.push-pushed.ensures.items)
     c.push.ensures.order c.push.ensures.arrangement (omega (arith, c.push-pushed.ensures.capacity)) (omega (arith, c.push-pushed-2.ensures.capacity))
 
@@ -69,7 +69,7 @@ returns-clause-added c =
     (record { coefficients = c.args.coefficients.now; least = c.args.least }) c.slack_line-line.result inside.room_columns inside.room_rows inside.loads inside.added c.saturating_add-self-inside.result
     c.args.self.now c.self.view_is k.minors.order_len
     (subst (λ (z : ℤ). c.push-pushed-2.new.self.items ≡ inside.loaded.items ++ record { coefficients = c.args.coefficients.now; least = z } ∷ []) least_is
-      (pushed _ inside.loaded.items c.push-pushed-2.new.self.items _ (c.push-pushed-2.ensures.succeeds loaded_room) c.push-pushed-2.ensures.items))
+    (pushed _ inside.loaded.items c.push-pushed-2.new.self.items _ (c.push-pushed-2.ensures.succeeds loaded_room) c.push-pushed-2.ensures.items))
     (pushed _ inside.lines.items c.push-pushed.new.self.items c.slack_line-line.result (c.push-pushed.ensures.succeeds lines_room) c.push-pushed.ensures.items)
     c.push.ensures.order c.saturating_add-self-inside.ensures
 

@@ -27,13 +27,13 @@ invariant_of-self c =
     let b = c.requires.basic in
     let basic_len : length c.args.self.now.basic ≡ length order - (m + 1) = ap length (sym basic) ∙ length-drop (m + 1) order in
     let there : get_or order (m + 1 + b.0) 0 ≡ c.args.last =
-          sym (get_or-drop (m + 1) order b.0 0) ∙ ap (λ xs. get_or xs b.0 0) basic ∙ get_or_default c.args.self.now.basic b.0 0 c.args.last b.1 ∙ b.2 in
+    sym (get_or-drop (m + 1) order b.0 0) ∙ ap (λ xs. get_or xs b.0 0) basic ∙ get_or_default c.args.self.now.basic b.0 0 c.args.last b.1 ∙ b.2 in
     let at_basic : at ≡ m + 1 + b.0 =
-          sym (t.variables.back at c.place-at.ensures.below) ∙ ap t.variables.place (c.place-at.ensures.value ∙ sym there) ∙ t.variables.back (m + 1 + b.0) (omega arith) in
+    sym (t.variables.back at c.place-at.ensures.below) ∙ ap t.variables.place (c.place-at.ensures.value ∙ sym there) ∙ t.variables.back (m + 1 + b.0) (omega arith) in
     let at_is : at ≡ m + 1 + first = omega (arith, c.from.ensures) in
     let last_is : c.args.last ≡ m + 1 + k = omega (arith, c.requires.last, c.requires.some) in
     let mid_is : c.swap-2.new.self.order ≡ swap order (m + 1 + first) (m + 1 + k) =
-          ap (λ (p : Arranged). p.order) c.swap-2.ensures.order ∙ ap (λ n. swap order n c.args.last) at_is ∙ ap (swap order (m + 1 + first)) last_is in
+    ap (λ (p : Arranged). p.order) c.swap-2.ensures.order ∙ ap (λ n. swap order n c.args.last) at_is ∙ ap (swap order (m + 1 + first)) last_is in
     let mid_len : length c.swap-2.new.self.order ≡ length order = ap length mid_is ∙ length-swap order (m + 1 + first) (m + 1 + k) in
     let order_swapped = swapped_at order c.swap-2.new.self.order (m + 1 + first) (m + 1 + k) (omega (arith, c.place-at.ensures.below)) (omega (arith, t.order_len, c.requires.some)) mid_is in
     let mid_lines_len : vec_len c.swap.new.self - 1 ≡ k = omega (arith, c.swap.ensures.len, c.len.ensures) in
