@@ -284,3 +284,16 @@ slack_has_entry m l s order lines column k t len below is solutions zeros =
         (λ row inside.
         ap (λ (z : ℤ). s *ℤ z) (x_other (get_or order (m + 1 + row) 0) (apart (m + 1 + row) (omega (arith, t.order_len)) (omega arith))) ∙ mul_zero s
         ∙ sym (dot_none x (get_or lines row []) (take (m + 1) order) (factor row inside)))
+
+-- so the first row with an entry that isn't 0 is there
+pub found_below : (m : ℕ) (l : List LoadedRow) (s : ℤ) (places : Arranged) (lines given : List (List ℤ)) (a b c d e f column row last : ℕ) → IsKept m l s places lines a b c d e f → 0 < length l → last ≡ m + length l
+    → column < m → get_or places.order column 0 ≡ last → given ≡ lines → ((r : ℕ) → r < row → get_or (get_or given r []) column (pos 0) ≡ pos 0) → row < length l
+found_below m l s places lines given a b c d e f column row last kept some last_is below value same before =
+    let t = kept.minors in
+    elim (cases_lt row (length l)) [
+      | inl inside ↦ inside
+      | inr past ↦ absurd
+          (slack_has_entry m l s places.order lines column (length l - 1) t (omega arith) below (value ∙ omega arith)
+            (λ y eqs. kept.solutions y (satisfies_from m l s places.order lines a b e f y t.order_len t.constant eqs))
+            (λ r inside. ap (λ (ls : List (List ℤ)). get_or (get_or ls r []) column (pos 0)) (sym same) ∙ before r (omega arith)))
+    ]
