@@ -1,0 +1,9 @@
+pub mod Signs
+pub mod Sums
+pub mod Exchange
+pub mod First
+pub mod Choice
+pub mod Same
+pub mod Opposed
+pub mod Stretch
+pub mod Ends

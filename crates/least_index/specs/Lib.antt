@@ -1,0 +1,3 @@
+pub mod System
+pub mod Rule
+pub mod Laws
