@@ -1,0 +1,11 @@
+pub mod Rows
+pub mod Lists
+pub mod Worth
+pub mod Alternatives
+pub mod Pairs
+pub mod Answers
+pub mod Counts
+pub mod Criteria
+pub mod Faults
+pub mod Classes
+pub mod Laws

@@ -1,0 +1,66 @@
+-- Laws of whole numbers: products over sums, quotients that are alone, and numbers that go to bits and back.
+use Rattle.std.proofs.Common.{◌≡◌, ℕ, ◌*◌, ◌<◌, ◌≤◌, ◌^◌, ℤ, pos, neg_ℤ, ◌+ℤ◌, ◌-ℤ◌, ◌*ℤ◌, zero, suc, refl, unsigned_abs, ap, arith, to_z, of_z}
+use Rattle.std.proofs.lemmas.Int.{ints, unsigned_abs-mul, to_z-of_z, fits_signed_from_abs, quot-rem, rem_below}
+use Rattle.std.proofs.lemmas.Nat.{mul-lt}
+use Rattle.std.specs.Int.{Width}
+use Rattle.std.specs.Int.RustNames.{int_div}
+use borrow.Author.Differences.{up, down, sum_is_lem, neg_is}
+use mir.Val.{hbits}
+
+-- a factor goes into a sum
+pub add-mul : (a b c : ℤ) → (a +ℤ b) *ℤ c ≡ a *ℤ c +ℤ b *ℤ c
+add-mul a b c =
+    omega (arith, ints, ap (λ n. n * up c) (sum_is_lem a b), ap (λ n. n * down c) (sum_is_lem a b))
+
+pub neg-mul : (a b : ℤ) → neg_ℤ a *ℤ b ≡ neg_ℤ (a *ℤ b)
+neg-mul a b =
+    let n = neg_is a in
+    omega (arith, ints, ap (λ k. k * up b) n.0, ap (λ k. k * down b) n.0, ap (λ k. k * up b) n.1, ap (λ k. k * down b) n.1)
+
+pub sub-mul : (a b c : ℤ) → (a -ℤ b) *ℤ c ≡ a *ℤ c -ℤ b *ℤ c
+sub-mul a b c = let h = add-mul a (neg_ℤ b) c in let k = neg-mul b c in omega (arith, ints)
+
+pub abs-zero : (a : ℤ) → unsigned_abs a ≡ 0 → a ≡ pos 0
+abs-zero a h = omega (arith, ints)
+
+zero_factor : (m n : ℕ) → m * n < n → m ≡ 0
+zero_factor zero n h = refl
+zero_factor (suc m) n h = absurd (omega arith)
+
+-- a multiple that is smaller than what it is a multiple of is 0
+zero_from_small : (k e : ℤ) → unsigned_abs (k *ℤ e) < unsigned_abs e → k ≡ pos 0
+zero_from_small k e h = abs-zero k (zero_factor (unsigned_abs k) (unsigned_abs e) (omega (arith, unsigned_abs-mul k e)))
+
+-- two multiples that are closer than the divisor are equal
+pub same_quotient : (p q e : ℤ) → unsigned_abs (p *ℤ e -ℤ q *ℤ e) < unsigned_abs e → p ≡ q
+same_quotient p q e h =
+    let z = zero_from_small (p -ℤ q) e (omega (arith, ap unsigned_abs (sub-mul p q e))) in omega (arith, ints)
+
+-- a number that is small enough is read from its bits as it was
+pub read_back : (w : Width) (z : ℤ) → unsigned_abs z < 2 ^ hbits w → to_z w (of_z w z) ≡ z
+read_back w z h = to_z-of_z w z (fits_signed_from_abs w z h)
+
+pub abs-mul-lt : (a b : ℤ) (m n : ℕ) → unsigned_abs a < m → unsigned_abs b < n → unsigned_abs (a *ℤ b) < m * n
+abs-mul-lt a b m n h k = omega (arith, unsigned_abs-mul a b, mul-lt (unsigned_abs a) (unsigned_abs b) m n h k)
+
+-- the division of a multiple gives the factor
+pub divided_is : (x e q : ℤ) → q *ℤ e ≡ x → 0 < unsigned_abs e → int_div x e ≡ q
+divided_is x e q h p =
+    same_quotient (int_div x e) q e (let r = rem_below x e p in let s = quot-rem x e in omega (arith, ints))
+
+factor_le : (m n : ℕ) → 0 < n → m ≤ m * n
+factor_le m zero h = absurd (omega arith)
+factor_le m (suc n) h = omega arith
+
+pub factor-abs-le : (q e : ℤ) → 0 < unsigned_abs e → unsigned_abs q ≤ unsigned_abs (q *ℤ e)
+factor-abs-le q e h = omega (arith, unsigned_abs-mul q e, factor_le (unsigned_abs q) (unsigned_abs e) h)
+
+-- what the code's division of a multiple gives
+pub divided_back : (w : Width) (x e q : ℤ) → q *ℤ e ≡ x → 0 < unsigned_abs e → unsigned_abs x < 2 ^ hbits w → unsigned_abs e < 2 ^ hbits w → to_z w (of_z w (int_div (to_z w (of_z w x)) (to_z w (of_z w e)))) ≡ q
+divided_back w x e q h p x_size e_size =
+    rw (read_back w x x_size, read_back w e e_size, divided_is x e q h p)
+    (read_back w q (omega (arith, factor-abs-le q e p, ap unsigned_abs h)))
+
+-- the difference of two products, whose factors are read from their bits
+pub products_back : (w : Width) (a b c d : ℤ) → unsigned_abs a < 2 ^ hbits w → unsigned_abs b < 2 ^ hbits w → unsigned_abs c < 2 ^ hbits w → unsigned_abs d < 2 ^ hbits w → to_z w (of_z w a) *ℤ to_z w (of_z w b) -ℤ to_z w (of_z w c) *ℤ to_z w (of_z w d) ≡ a *ℤ b -ℤ c *ℤ d
+products_back w a b c d h k l m = rw (read_back w a h, read_back w b k, read_back w c l, read_back w d m) refl

@@ -1,0 +1,138 @@
+//! Exact steps on whole numbers whose products need more than 128 bits, and the greatest common divisor.
+#![tactic(auto)]
+
+ghost use Rattle.std.specs.Prelude.{◌≡◌, ◌<◌, ◌^◌, pos, ◌*ℤ◌, ◌-ℤ◌, ◌≤ℤ◌, ◌↔◌, unsigned_abs, IsTrue};
+ghost use Rattle.std.specs.Int.{IsGcd};
+ghost use Rattle.wide_step.specs.Quotient.{HasQuotient, AreSmall};
+
+mod divided;
+
+use divided::signed_product;
+
+/// Factors below this size are multiplied directly: a product is then below 2^124.
+const SMALL: u128 = 1 << 62;
+
+/// The exact quotient `(a * b - c * d) / e`, although the products may need 240 bits.
+///
+/// Where the four factors are below 2^62 in size it takes a few instructions.
+pub fn step(a: i128, b: i128, c: i128, d: i128, e: i128) -> i128
+    requires a_size { unsigned_abs a < 2 ^ 120 }
+    requires b_size { unsigned_abs b < 2 ^ 120 }
+    requires c_size { unsigned_abs c < 2 ^ 120 }
+    requires d_size { unsigned_abs d < 2 ^ 120 }
+    requires e_size { unsigned_abs e < 2 ^ 120 }
+    requires divisor { 0 < unsigned_abs e }
+    requires exact { HasQuotient (a *ℤ b -ℤ c *ℤ d) e }
+
+    ensures quotient { result *ℤ e ≡ a *ℤ b -ℤ c *ℤ d }
+    ensures size { unsigned_abs result < 2 ^ 126 }
+{
+    if are_small(a, b, c, d) {
+        small_step(a, b, c, d, e)
+    } else if e < 0 {
+        wide_quotient(c, d, a, b, e.unsigned_abs())
+    } else {
+        wide_quotient(a, b, c, d, e.unsigned_abs())
+    }
+}
+
+/// Whether the four factors are below 2^62 in size.
+#[inline]
+fn are_small(a: i128, b: i128, c: i128, d: i128) -> bool
+    ensures { IsTrue result ↔ AreSmall a b c d }
+{
+    a.unsigned_abs() < SMALL
+        && b.unsigned_abs() < SMALL
+        && c.unsigned_abs() < SMALL
+        && d.unsigned_abs() < SMALL
+}
+
+/// The step where the products are below 2^124.
+#[inline]
+fn small_step(a: i128, b: i128, c: i128, d: i128, e: i128) -> i128
+    requires small { AreSmall a b c d }
+    requires e_size { unsigned_abs e < 2 ^ 120 }
+    requires divisor { 0 < unsigned_abs e }
+    requires exact { HasQuotient (a *ℤ b -ℤ c *ℤ d) e }
+    ensures quotient { result *ℤ e ≡ a *ℤ b -ℤ c *ℤ d }
+    ensures size { unsigned_abs result < 2 ^ 126 }
+{
+    exact_quotient(small_product(a, b) - small_product(c, d), e)
+}
+
+/// A product of two numbers of 64 bits.
+fn small_product(a: i128, b: i128) -> i128
+    requires a_size { unsigned_abs a < 2 ^ 62 }
+    requires b_size { unsigned_abs b < 2 ^ 62 }
+    ensures product { result ≡ a *ℤ b }
+    ensures size { unsigned_abs result < 2 ^ 124 }
+{
+    i128::from(a as i64) * i128::from(b as i64)
+}
+
+/// The quotient of a multiple of the divisor.
+fn exact_quotient(dividend: i128, divisor: i128) -> i128
+    requires dividend_size { unsigned_abs dividend < 2 ^ 126 }
+    requires divisor_size { unsigned_abs divisor < 2 ^ 120 }
+    requires divisor { 0 < unsigned_abs divisor }
+    requires exact { HasQuotient dividend divisor }
+    ensures quotient { result *ℤ divisor ≡ dividend }
+    ensures size { unsigned_abs result < 2 ^ 126 }
+{
+    if divisor == 1 {
+        dividend
+    } else if dividend.unsigned_abs() | divisor.unsigned_abs() < SMALL {
+        i128::from(dividend as i64 / divisor as i64)
+    } else {
+        dividend / divisor
+    }
+}
+
+/// The exact quotient of `a * b - c * d` by a positive divisor, where the products may be wide.
+fn wide_quotient(a: i128, b: i128, c: i128, d: i128, divisor: u128) -> i128
+    requires a_size { unsigned_abs a < 2 ^ 120 }
+    requires b_size { unsigned_abs b < 2 ^ 120 }
+    requires c_size { unsigned_abs c < 2 ^ 120 }
+    requires d_size { unsigned_abs d < 2 ^ 120 }
+    requires divisor_size { divisor < 2 ^ 120 }
+    requires divisor { 0 < divisor }
+    requires exact { HasQuotient (a *ℤ b -ℤ c *ℤ d) (pos divisor) }
+    ensures quotient { result *ℤ pos divisor ≡ a *ℤ b -ℤ c *ℤ d }
+    ensures size { unsigned_abs result < 2 ^ 126 }
+{
+    let first = signed_product(a, b, divisor);
+    let second = signed_product(c, d, divisor);
+    first.quotient.wrapping_sub(second.quotient).cast_signed()
+}
+
+/// The greatest common divisor, never negative; that of 0 and 0 is 0.
+pub fn gcd(a: i128, b: i128) -> i128
+    requires a_size { unsigned_abs a < 2 ^ 126 }
+    requires b_size { unsigned_abs b < 2 ^ 126 }
+    ensures never_negative { pos 0 ≤ℤ result }
+    ensures greatest { IsGcd (unsigned_abs a) (unsigned_abs b) (unsigned_abs result) }
+    ensures zero { a ≡ pos 0 → b ≡ pos 0 → result ≡ pos 0 }
+    ensures size { unsigned_abs result < 2 ^ 126 }
+{
+    gcd_of_sizes(a.unsigned_abs(), b.unsigned_abs()) as i128
+}
+
+/// The greatest common divisor, by Euclid's algorithm.
+fn gcd_of_sizes(a: u128, b: u128) -> u128
+    requires a_size { a < 2 ^ 126 }
+    requires b_size { b < 2 ^ 126 }
+    ensures greatest { IsGcd a b result }
+    ensures size { result < 2 ^ 126 }
+{
+    let mut x = a;
+    let mut y = b;
+    while y != 0 {
+        let rest = x % y;
+        x = y;
+        y = rest;
+    }
+    x
+}
+
+#[cfg(test)]
+mod tests;
