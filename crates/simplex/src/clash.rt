@@ -36,8 +36,9 @@ fn weighted_variable(work: &Dictionary, row: u32, place: u8) -> (u32, i128)
     ensures variable_high { result.0 ≤ work.now.columns + length work.now.loaded }
     ensures size { unsigned_abs result.1 < 2 ^ 96 }
 {
+    let scale = work.scale();
     if place == 0 {
-        (work.basic(row), work.scale())
+        (work.basic(row), scale)
     } else {
         (work.nonbasic(place), -work.entry(row, place))
     }
@@ -95,7 +96,7 @@ fn slack_weights(work: &Dictionary, row: u32) -> RowWeights
     let columns = u32::from(work.cols());
     let mut rows = RowWeights::none();
     let mut above = columns;
-    while let Some((variable, weight)) = next_slack(work, row, above) {
+    'slacks: while let Some((variable, weight)) = next_slack(work, row, above) {
         rows.push(variable - columns, weight);
         above = variable;
     }
