@@ -5,3 +5,6 @@ pub mod Sizes
 pub mod Choosing
 pub mod Divisors
 pub mod Equations
+pub mod Quotients
+pub mod Points
+pub mod ScaledPoints

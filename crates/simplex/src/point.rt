@@ -2,6 +2,7 @@
 ghost use Rattle.std.specs.Prelude.{ℕ, ◌≡◌, All, length, pos, ℤ, ◌≤ℤ◌};
 ghost use Rattle.criteria_model.specs.Lists.{IsVector};
 ghost use Rattle.criteria_model.specs.Rows.{times};
+ghost use Rattle.fraction_free.specs.Tableau.{IsDictionary};
 ghost use Rattle.simplex.specs.Rows.{MeetsRows, HasNoDivisor};
 ghost use Rattle.simplex.specs.Choice.{IsFeasible};
 ghost use Rattle.simplex.specs.Point.{IsScaledPoint};
@@ -23,7 +24,8 @@ pub fn point_of(work: &Dictionary) -> Vector
 /// The vector where the nonbasic variables are 0, times the scale.
 fn scaled_point(work: &Dictionary) -> Vector
     requires { IsFeasible work.now }
-    ensures { IsScaledPoint work.now result }
+    ensures point { IsScaledPoint work.now result }
+    ensures dictionary { IsDictionary work.now }
 {
     let columns = usize::from(work.cols());
     let mut cells = [work.scale(); 24];
