@@ -19,6 +19,8 @@ use Rattle.simplex.specs.Choice.{constant_of, IsFeasible}
 use Rattle.simplex.specs.Point.{IsScaledPoint}
 use Rattle.simplex.specs.Rows.{MeetsRows}
 use Rattle.simplex.proofs.Variables.{HasVariables, variables_of}
+use Rattle.simplex.proofs.Sizes.{scale_small, entry_small, sum_small}
+use Rattle.simplex.proofs.ScaledPoints.{Written, written_none, written_more, written_past, written_len}
 use Rattle.simplex.proofs.AsSystem.{system_of, row_place, basic_found, with_one, with_one-same, basic_at, basic_is_basic, not_basic, from_system}
 
 -- a constant of the basic variable at a column, or none
@@ -143,4 +145,35 @@ point_meets d values result factor is feasible at pf multiple positive = record 
       (subst (λ (n : ℤ). pos 0 ≤ℤ n) (sym (with_one-same d.scale (basic_solution (system_of d)) (d.columns + 1 + row) (omega arith))) (value_nonneg d is feasible (d.columns + 1 + row)))
       slack
       (ap (dot (loaded_at d.loaded row).coefficients) (vector_is d values is at ∙ multiple) ∙ dot_times factor (loaded_at d.loaded row).coefficients result)
+}
+
+abbrev pub WrittenPoint : Tableau → ℕ → List ℤ → Type 0
+WrittenPoint d at cells = Written (slice_index d.basic) (λ i. d.scale +ℤ constant_of d i) d.scale d.columns at cells
+
+pub scaled_none : (d : Tableau) (z : ℤ) → IsDictionary d → z ≡ d.scale → WrittenPoint d 0 (replicate 24 z)
+scaled_none d z is e =
+    subst (λ (n : ℤ). WrittenPoint d 0 (replicate 24 n)) (sym e)
+      (written_none (slice_index d.basic) (λ i. d.scale +ℤ constant_of d i) d.scale d.columns (let s = scale_small d is in omega arith))
+
+pub scaled_more : (d : Tableau) (at : ℕ) (cells new : List ℤ) (v : ℕ) (z : ℤ) → IsDictionary d → at < length d.loaded
+    → v ≡ slice_index d.basic at → v ≤ d.columns → z ≡ d.scale +ℤ constant_of d at → new ≡ slice_set cells (v - 1) z → WrittenPoint d at cells → WrittenPoint d (at + 1) new
+scaled_more d at cells new v z is lt e le ez en w =
+    subst (λ (l : List ℤ). WrittenPoint d (at + 1) l)
+      (sym (en ∙ ap (λ (n : ℕ). slice_set cells (n - 1) z) e ∙ ap (slice_set cells (slice_index d.basic at - 1)) ez))
+      (written_more (slice_index d.basic) (λ i. d.scale +ℤ constant_of d i) d.scale d.columns at (length d.loaded) cells vs.basic_distinct lt vs.basic_low is.columns_most
+        (sum_small d.scale (constant_of d at) (scale_small d is) (entry_small d is at d.columns lt (omega arith))) (omega (arith, e)) w)
+  where
+    vs : HasVariables d
+    vs = variables_of d is
+
+pub scaled_past : (d : Tableau) (at : ℕ) (cells new : List ℤ) (v : ℕ) → v ≡ slice_index d.basic at → d.columns < v → new ≡ cells → WrittenPoint d at cells → WrittenPoint d (at + 1) new
+scaled_past d at cells new v e gt en w =
+    subst (λ (l : List ℤ). WrittenPoint d (at + 1) l) (sym en)
+      (written_past (slice_index d.basic) (λ i. d.scale +ℤ constant_of d i) d.scale d.columns at cells (omega (arith, e)) w)
+
+pub scaled_is : (d : Tableau) (cells : List ℤ) (at : ℕ) → IsDictionary d → length d.loaded ≤ at → at ≤ length d.loaded → WrittenPoint d at cells → IsScaledPoint d (take d.columns cells)
+scaled_is d cells at is ge le w = record {
+  len = written_len (slice_index d.basic) (λ i. d.scale +ℤ constant_of d i) d.scale d.columns at d.columns cells is.columns_most w;
+  basic = λ row lt h. let lo = (variables_of d is).basic_low row lt in get_or-take d.columns cells (slice_index d.basic row - 1) (pos 0) (omega arith) ∙ w.placed row (omega arith) h;
+  nonbasic = λ column lt none. get_or-take d.columns cells column (pos 0) lt ∙ w.others column (omega (arith, is.columns_most)) (λ i li. none i (omega arith))
 }

@@ -56,13 +56,11 @@ written_more variable value rest most n m cells distinct lt low few small le w =
     size k l (inr e) =
       subst (λ (x : ℤ). unsigned_abs x < 2 ^ 96) (sym (get_or-set_other cells (variable n - 1) k (value n) (pos 0) (eqb-false k (variable n - 1) e))) (w.sizes k l)
 
-pub written_past : (variable : ℕ → ℕ) (value : ℕ → ℤ) (rest : ℤ) (most n : ℕ) (cells : List ℤ) → most < variable n → Written variable value rest most n cells
-    → ((k : ℕ) → k < 24 → ((i : ℕ) → i < n + 1 → variable i ≢ k + 1) → ((i : ℕ) → i < n → variable i ≢ k + 1))
-    → Written variable value rest most (n + 1) cells
-written_past variable value rest most n cells gt w sub = record {
+pub written_past : (variable : ℕ → ℕ) (value : ℕ → ℤ) (rest : ℤ) (most n : ℕ) (cells : List ℤ) → most < variable n → Written variable value rest most n cells → Written variable value rest most (n + 1) cells
+written_past variable value rest most n cells gt w = record {
   len = w.len;
   placed = λ i l h. w.placed i (before i l h (cases_Bool (i == n))) h;
-  others = λ k l none. w.others k l (sub k l none);
+  others = λ k l none. w.others k l (λ i li. none i (omega arith));
   sizes = w.sizes
 }
   where
