@@ -8,3 +8,4 @@ pub mod Equations
 pub mod Quotients
 pub mod Points
 pub mod ScaledPoints
+pub mod Pushes
