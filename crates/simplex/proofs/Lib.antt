@@ -4,8 +4,9 @@ pub mod AsSystem
 pub mod Sizes
 pub mod Choosing
 pub mod Divisors
-pub mod Equations
 pub mod Quotients
-pub mod Points
 pub mod ScaledPoints
+pub mod Points
 pub mod Pushes
+pub mod Equations
+pub mod NextSlacks
