@@ -10,3 +10,4 @@ pub mod Points
 pub mod Pushes
 pub mod Equations
 pub mod NextSlacks
+pub mod Slacks
