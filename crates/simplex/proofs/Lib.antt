@@ -11,3 +11,4 @@ pub mod Pushes
 pub mod Equations
 pub mod NextSlacks
 pub mod Slacks
+pub mod Clashes

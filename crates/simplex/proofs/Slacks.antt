@@ -15,8 +15,8 @@ use Rattle.simplex.specs.declared.row_weights.RowWeight.{RowWeight}
 use Rattle.simplex.specs.Weights.{IsRowWeight, AreRowWeights, weighted}
 use Rattle.simplex.specs.Choice.{IsBlocked}
 use Rattle.simplex.specs.Equation.{variable_at, weight_at, weight_of, IsNextWeight, HasNoNextWeight, HasSlackWeights}
-use Rattle.simplex.proofs.Pushes.{one_item}
-use Rattle.simplex.proofs.Equations.{variable_range, weight_nonneg, weight_of-at, weight_of-none, has_place}
+use Rattle.simplex.proofs.Pushes.{one_item, rows_more}
+use Rattle.simplex.proofs.Equations.{variable_range, weight_small, weight_nonneg, weight_of-at, weight_of-none, has_place}
 
 -- ---- how many numbers below n pass a test
 
@@ -58,16 +58,15 @@ there_less false false m n h lt = omega arith
 
 pub how_many-fewer : (test other : ℕ → Bool) (n p : ℕ) → p < n → ((i : ℕ) → i < n → test i ≡ true → other i ≡ true) → test p ≡ false → other p ≡ true → how_many test n < how_many other n
 unfolding how_many
-how_many-fewer test other zero p lt h no yes_ = absurd (omega arith)
-how_many-fewer test other (suc n) p lt h no yes_ = from (cases_Bool (p == n))
+how_many-fewer test other zero p lt h fails passes = absurd (omega arith)
+how_many-fewer test other (suc n) p lt h fails passes = from (λ (ne : p ≢ n). how_many-fewer test other n p (omega arith) (λ i l. h i (omega arith)) fails passes) (cases_Bool (p == n))
   where
-    from : ((p == n) ≡ true) ⊎ ((p == n) ≡ false) → how_many test n + cond (test n) 1 0 < how_many other n + cond (other n) 1 0
-    from (inl e) =
+    from : (p ≢ n → how_many test n < how_many other n) → ((p == n) ≡ true) ⊎ ((p == n) ≡ false) → how_many test n + cond (test n) 1 0 < how_many other n + cond (other n) 1 0
+    from rest (inl e) =
       let same : p ≡ n = eqb-true p n e in
-      here_less (test n) (other n) (how_many test n) (how_many other n) (sym (ap test same) ∙ no) (sym (ap other same) ∙ yes_) (how_many-part test other n (λ i l. h i (omega arith)))
-    from (inr e) =
-      let ne : p ≢ n = eqb-false p n e in
-      there_less (test n) (other n) (how_many test n) (how_many other n) (h n (omega arith)) (how_many-fewer test other n p (omega arith) (λ i l. h i (omega arith)) no yes_)
+      here_less (test n) (other n) (how_many test n) (how_many other n) (sym (ap test same) ∙ fails) (sym (ap other same) ∙ passes) (how_many-part test other n (λ i l. h i (omega arith)))
+    from rest (inr e) =
+      there_less (test n) (other n) (how_many test n) (how_many other n) (h n (omega arith)) (rest (eqb-false p n e))
 
 -- the place has a later variable with a positive weight
 abbrev pub is_later : Tableau → ℕ → ℕ → ℕ → Bool
@@ -95,18 +94,22 @@ remaining_falls d row above v place is e =
 abbrev pub slack_term : Tableau → ℕ → (ℕ → ℤ) → ℕ → ℤ
 slack_term d row of variable = cond (nat_lt d.columns variable) (weight_of d row variable *ℤ of (variable - d.columns)) (pos 0)
 
+sum-suc : (f : ℕ → ℤ) (n : ℕ) → sum_below f (suc n) ≡ sum_below f n +ℤ f n
+unfolding sum_below
+sum-suc f n = refl
+
 pub sum-skip : (f : ℕ → ℤ) (n m : ℕ) → n ≤ m → ((i : ℕ) → n ≤ i → i < m → f i ≡ pos 0) → sum_below f m ≡ sum_below f n
 unfolding sum_below
 sum-skip f n zero le h = let e : n ≡ 0 = omega arith in ap (sum_below f) (sym e)
-sum-skip f n (suc m) le h = from (cases_Bool (n == suc m))
+sum-skip f n (suc m) le h = from (λ (k : n ≤ m). sum-skip f n m k (λ i l j. h i l (omega arith))) (cases_Bool (n == suc m))
   where
     drop_zero : (a b : ℤ) → b ≡ pos 0 → a +ℤ b ≡ a
     drop_zero a b e = omega (arith, sums)
-    from : ((n == suc m) ≡ true) ⊎ ((n == suc m) ≡ false) → sum_below f m +ℤ f m ≡ sum_below f n
-    from (inl e) = ap (sum_below f) (sym (eqb-true n (suc m) e))
-    from (inr e) =
+    from : (n ≤ m → sum_below f m ≡ sum_below f n) → ((n == suc m) ≡ true) ⊎ ((n == suc m) ≡ false) → sum_below f m +ℤ f m ≡ sum_below f n
+    from rest (inl e) = sym (sum-suc f m) ∙ ap (sum_below f) (sym (eqb-true n (suc m) e))
+    from rest (inr e) =
       let ne : n ≢ suc m = eqb-false n (suc m) e in
-      drop_zero (sum_below f m) (f m) (h m (omega arith) (omega arith)) ∙ sum-skip f n m (omega arith) (λ i l k. h i l (omega arith))
+      drop_zero (sum_below f m) (f m) (h m (omega arith) (omega arith)) ∙ rest (omega arith)
 
 weighted-append : (of : ℕ → ℤ) (xs : List RowWeight) (x : RowWeight) → weighted of (xs ++ x ∷ []) ≡ weighted of xs +ℤ x.weight *ℤ of x.row
 weighted-append of [] x = flip (x.weight *ℤ of x.row)
@@ -160,14 +163,21 @@ slacks_none d row columns is e = record {
   summed = λ of. sym (sum-zero (slack_term d row of) (columns + 1) (λ u lt. cond-false (nat_lt d.columns u) (weight_of d row u *ℤ of (u - d.columns)) (pos 0) (le-ltb d.columns u (omega arith))))
 }
 
+pub slack_room : (d : Tableau) (row columns above place : ℕ) (rows : List RowWeight) → IsNextWeight d row above place → SlacksSoFar d row columns above rows → length rows < 25
+slack_room d row columns above place rows next so =
+    let falls = remaining_falls d row above (variable_at d row place) place next refl in let r = so.room in omega arith
+
 pub slacks_more : (d : Tableau) (row columns above v place : ℕ) (w : ℤ) (rows new : List RowWeight) → IsDictionary d → row < length d.loaded → IsBlocked d row
-    → IsNextWeight d row above place → v ≡ variable_at d row place → w ≡ weight_at d row place → AreRowWeights new → new ≡ rows ++ (record { row = v - columns; weight = w }) ∷ []
+    → IsNextWeight d row above place → v ≡ variable_at d row place → w ≡ weight_at d row place → new ≡ rows ++ (record { row = v - columns; weight = w }) ∷ []
     → SlacksSoFar d row columns above rows → SlacksSoFar d row columns v new
-slacks_more d row columns above v place w rows new is lt blocked next ev ew are en so = record {
+slacks_more d row columns above v place w rows new is lt blocked next ev ew en so = record {
   columns_is = so.columns_is;
   low = let a = next.later in let b = so.low in omega (arith, ev);
   high = omega (arith, ev, range.1);
-  weights = are;
+  weights = subst AreRowWeights (sym en) (rows_more rows x so.weights (slack_room d row columns above place rows next so)
+    (record { numbered = let a = next.later in let b = so.low in omega (arith, ev, so.columns_is); positive = subst (λ (n : ℤ). pos 0 <ℤ n) (sym ew) next.positive;
+      within = subst (λ (n : ℤ). unsigned_abs n < 2 ^ 96) (sym ew) (weight_small d is row place lt (let h = next.within in omega arith)) })
+    (λ k y l. let b = so.below k y l in let a = next.later in omega (arith, ev, so.columns_is)));
   below = subst (All (λ item. item.row + d.columns ≤ v)) (sym en)
     (All-append (λ item. item.row + d.columns ≤ v) rows (x ∷ []) (λ k y l. let b = so.below k y l in let a = next.later in omega (arith, ev))
       (one_item (λ item. item.row + d.columns ≤ v) x (let a = next.later in let b = so.low in omega (arith, ev, so.columns_is))));
@@ -185,7 +195,6 @@ slacks_more d row columns above v place w rows new is lt blocked next ev ew are 
       let le : variable_at d row place ≤ variable_at d row p = next.least p (omega arith) (omega (arith, e)) positive_weight in
       omega (arith, ev, e)))
     sum_step : (of : ℕ → ℤ) → weighted of new ≡ sum_below (slack_term d row of) (v + 1)
-    unfolding sum_below
     sum_step of =
       let place_is : v + 1 ≡ suc v = omega arith in
       let gt : above < v = let a = next.later in omega (arith, ev) in
@@ -197,6 +206,7 @@ slacks_more d row columns above v place w rows new is lt blocked next ev ew are 
           (ap (λ (n : ℤ). n *ℤ of (v - columns)) (ew ∙ sym (ap (weight_of d row) ev ∙ weight_of-at d is row place lt (let h = next.within in omega arith)))
           ∙ ap (λ (n : ℕ). weight_of d row v *ℤ of (v - n)) so.columns_is
           ∙ sym (cond-true (nat_lt d.columns v) (weight_of d row v *ℤ of (v - d.columns)) (pos 0) (lt-ltb d.columns v over)))
+      ∙ sym (sum-suc (slack_term d row of) v)
       ∙ ap (sum_below (slack_term d row of)) (sym place_is)
 
 pub slacks_done : (d : Tableau) (row columns above : ℕ) (rows : List RowWeight) → IsDictionary d → row < length d.loaded → IsBlocked d row → HasNoNextWeight d row above → SlacksSoFar d row columns above rows
