@@ -32,7 +32,7 @@ sum_suc : (f : ℕ → ℤ) (n : ℕ) → sum_below f (suc n) ≡ sum_below f n 
 unfolding sum_below
 sum_suc f n = refl
 
-sum_neg : (f : ℕ → ℤ) (n : ℕ) → sum_below (λ i. neg_ℤ (f i)) n ≡ neg_ℤ (sum_below f n)
+pub sum_neg : (f : ℕ → ℤ) (n : ℕ) → sum_below (λ i. neg_ℤ (f i)) n ≡ neg_ℤ (sum_below f n)
 unfolding sum_below
 sum_neg f zero = refl
 sum_neg f (suc n) = ap (λ (s : ℤ). s +ℤ neg_ℤ (f n)) (sum_neg f n) ∙ step (sum_below f n) (f n)
@@ -48,7 +48,7 @@ sum_two f g (suc n) = ap (λ (s : ℤ). s +ℤ (f n +ℤ g n)) (sum_two f g n) �
     step : (a b c d : ℤ) → (a +ℤ b) +ℤ (c +ℤ d) ≡ (a +ℤ c) +ℤ (b +ℤ d)
     step a b c d = omega (arith, sums)
 
-sum_nonneg : (f : ℕ → ℤ) (n : ℕ) → ((i : ℕ) → i < n → pos 0 ≤ℤ f i) → pos 0 ≤ℤ sum_below f n
+pub sum_nonneg : (f : ℕ → ℤ) (n : ℕ) → ((i : ℕ) → i < n → pos 0 ≤ℤ f i) → pos 0 ≤ℤ sum_below f n
 unfolding sum_below
 sum_nonneg f zero h = omega (arith, ints)
 sum_nonneg f (suc n) h = step (sum_below f n) (f n) (sum_nonneg f n (λ i lt. h i (omega arith))) (h n (omega arith))

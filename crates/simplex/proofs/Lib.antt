@@ -12,3 +12,4 @@ pub mod Equations
 pub mod NextSlacks
 pub mod Slacks
 pub mod Clashes
+pub mod ClashParts

@@ -1,5 +1,7 @@
 //! The clash of a row that no nonbasic variable helps.
-ghost use Rattle.std.specs.Prelude.{ℕ, ◌≡◌, ◌+◌, ◌-◌, ◌^◌, ◌<◌, ◌≤◌, length, All, MatchOption, slice_index_or, ℤ, pos, ◌<ℤ◌, ◌≤ℤ◌, unsigned_abs};
+ghost use Rattle.std.specs.Prelude.{ℕ, ◌≡◌, ◌+◌, ◌-◌, ◌^◌, ◌<◌, ◌≤◌, List, length, All, MatchOption, slice_index_or, ℤ, pos, ◌<ℤ◌, ◌≤ℤ◌, unsigned_abs};
+ghost use Rattle.fraction_free.specs.Tableau.{IsDictionary};
+ghost use Rattle.simplex.specs.Rows.{MeetsRows};
 ghost use Rattle.simplex.specs.Weights.{AreRowWeights};
 ghost use Rattle.simplex.specs.Choice.{IsBlocked, constant_of};
 ghost use Rattle.simplex.specs.Equation.{variable_at, weight_at, weight_of, IsNextWeight, HasNoNextWeight, HasSlackWeights};
@@ -17,7 +19,8 @@ pub fn clash_of(work: &Dictionary, row: u32) -> Clash
     requires high { row ≤ length work.now.loaded }
     requires negative { constant_of work.now (row - 1) <ℤ pos 0 }
     requires blocked { IsBlocked work.now (row - 1) }
-    ensures { IsClash work.now.columns work.now.loaded result }
+    ensures clash { IsClash work.now.columns work.now.loaded result }
+    ensures unmet { (vector : List ℤ) → ¬ MeetsRows work.now.columns work.now.loaded vector }
 {
     Clash {
         increments: increment_weights(work, row),
@@ -48,6 +51,7 @@ fn weighted_variable(work: &Dictionary, row: u32, place: u8) -> (u32, i128)
 fn increment_weights(work: &Dictionary, row: u32) -> Vector
     requires low { 1 ≤ row }
     requires high { row ≤ length work.now.loaded }
+    ensures dictionary { IsDictionary work.now }
     ensures len { length result ≡ work.now.columns }
     ensures weights { (column : ℕ) → column < work.now.columns → slice_index_or result column (pos 0) ≡ weight_of work.now (row - 1) (column + 1) }
 {
