@@ -1,12 +1,14 @@
 //! The least-index rule's choice.
 ghost use Rattle.std.specs.Prelude.{ℕ, ◌-◌, ◌<◌, ◌≤◌, ◌≡◌, length, MatchOption, pos, ◌<ℤ◌};
+ghost use Rattle.fraction_free.specs.Tableau.{IsDictionary};
 ghost use Rattle.simplex.specs.Choice.{IsFeasible, IsLeavingRow, IsBlocked, IsEnteringColumn};
 
 use fraction_free::Dictionary;
 
 /// The row of the least basic variable that is below 0 where the nonbasic ones are 0.
 pub fn leaving_row(work: &Dictionary) -> Option<u32>
-    ensures { MatchOption result (IsFeasible work.now) (λ row. (1 ≤ row) × IsLeavingRow work.now (row - 1)) }
+    ensures choice { MatchOption result (IsFeasible work.now) (λ row. (1 ≤ row) × IsLeavingRow work.now (row - 1)) }
+    ensures dictionary { IsDictionary work.now }
 {
     let mut found = None;
     let mut least = u32::MAX;

@@ -15,7 +15,7 @@ pub fn solve(work: &mut Dictionary) -> Found
     ensures rows { KeepsRows work.old work.new }
     ensures dictionary { IsDictionary work.new }
 {
-    loop {
+    'pivots: loop {
         let Some(row) = leaving_row(work) else {
             return Found::Point(point_of(work));
         };
