@@ -76,3 +76,10 @@ pub record DropsLast (old new : Tableau) : Type 0 where
   pub room_rows : new.room_rows ≡ old.room_rows
   pub loads : new.loads ≡ old.loads
   pub added : new.added ≡ old.added
+
+-- one number of another row's line after a pivot; the others are as they were
+pub record IsExchangedAt (scale : ℤ) (column : ℕ) (pivot old new : List ℤ) (place : ℕ) : Type 0 where
+  pub len : length new ≡ length old
+  pub divided : number_at new place *ℤ scale
+      ≡ with_sign (number_at pivot column) (number_at pivot column *ℤ number_at old place -ℤ number_at old column *ℤ number_at pivot place)
+  pub others : (other : ℕ) → other ≢ place → number_at new other ≡ number_at old other

@@ -1,9 +1,9 @@
 -- How a dictionary keeps what it promises: scale and entries are minors of the table of its variables.
 -- The table has a row for each variable, and a column for each increment and one for the constant 1.
-use Rattle.std.specs.Prelude.{ℕ, ◌+◌, ◌-◌, ◌≡◌, ◌<◌, ◌≤◌, List, [], ◌∷◌, ◌++◌, length, take, drop, map, slice_index, slice_index_or, ℤ, pos, neg_ℤ, ◌+ℤ◌, ◌-ℤ◌, ◌*ℤ◌, ◌≤ℤ◌, ◌↔◌, ◌≢◌, ◌^◌, unsigned_abs, fold, if◌then◌else◌, ◌==◌, nat_le}
+use Rattle.std.specs.Prelude.{ℕ, ◌+◌, ◌-◌, ◌≡◌, ◌<◌, ◌≤◌, List, [], ◌∷◌, ◌++◌, length, take, drop, map, slice_index, slice_index_or, ℤ, pos, neg_ℤ, ◌+ℤ◌, ◌-ℤ◌, ◌*ℤ◌, ◌≤ℤ◌, ◌≢◌, ◌^◌, unsigned_abs, fold, if◌then◌else◌, ◌==◌, nat_le, nat_lt, slice_set, replicate}
 use Rattle.std.specs.List.{range_with_len}
 use Rattle.wide_step.specs.Quotient.{HasQuotient}
-use Rattle.fraction_free.specs.Changes.{number_at}
+use Rattle.fraction_free.specs.Changes.{number_at, IsOtherLine, IsPivotLine}
 use Rattle.minors.specs.Combination.{IsCombination, IsScale}
 use Rattle.fraction_free.specs.declared.loaded.LoadedRow.{LoadedRow}
 use Rattle.fraction_free.specs.Arrangement.{IsArrangement, Arranged}
@@ -61,10 +61,10 @@ pub record IsMinorTableau (columns : ℕ) (loaded : List LoadedRow) (scale : ℤ
   pub lines_are : (row : ℕ) → row < length loaded
       → IsCombination scale (table_row columns loaded (slice_index order (columns + 1 + row))) (slice_index_or lines row []) (square_of columns loaded order)
 
--- what a dictionary keeps: its numbers are minors, its solutions those of the loaded rows, and there is room
+-- what a dictionary keeps: its numbers are minors, its solutions have the loaded rows' slacks, and there is room
 pub record IsKept (columns : ℕ) (loaded : List LoadedRow) (scale : ℤ) (places : Arranged) (lines : List (List ℤ)) (room_columns room_rows lines_room loaded_room loads added : ℕ) : Type 0 where
   pub minors : IsMinorTableau columns loaded scale places.order lines
-  pub solutions : (x : ℕ → ℤ) → Satisfies (tableau_of columns loaded scale places.order lines room_columns room_rows loads added) x ↔ HasSlacks columns loaded x
+  pub solutions : (x : ℕ → ℤ) → Satisfies (tableau_of columns loaded scale places.order lines room_columns room_rows loads added) x → HasSlacks columns loaded x
   pub columns_room : columns ≤ room_columns
   pub columns_most : room_columns ≤ 24
   pub rows_room : length loaded ≤ room_rows
@@ -92,3 +92,20 @@ pub record CanCombine (columns : ℕ) (scale : ℤ) (order : List ℕ) (lines : 
   pub scale_size : unsigned_abs scale < 2 ^ 89
   pub len : (row : ℕ) → row < length lines → length (slice_index_or lines row []) ≡ columns + 1
   pub sizes : (row place : ℕ) → unsigned_abs (number_at (slice_index_or lines row []) place) < 2 ^ 89
+
+-- what a pivot makes of the lines
+pub record AreExchanged (scale : ℤ) (at column : ℕ) (old new : List (List ℤ)) : Type 0 where
+  pub len : length new ≡ length old
+  pub pivot_line : IsPivotLine scale column (slice_index_or old at []) (slice_index_or new at [])
+  pub other_lines : (other : ℕ) → other < length old → other ≢ at
+      → IsOtherLine scale column (slice_index_or old at []) (slice_index_or old other []) (slice_index_or new other [])
+
+-- the factors of the variable at a place: of a column it is the scale at that column, and of a row it is the row's line
+abbrev pub factors_at : ℤ → List (List ℤ) → ℕ → ℕ → List ℤ
+factors_at scale lines width place =
+    if nat_lt place width then slice_set (replicate width (pos 0)) place scale else slice_index_or lines (place - width) []
+
+-- a multiple of other numbers is added to each
+pub record IsAdded (times : ℤ) (old other new : List ℤ) : Type 0 where
+  pub len : length new ≡ length old
+  pub sums : (at : ℕ) → at < length old → number_at new at ≡ number_at old at +ℤ times *ℤ number_at other at

@@ -2,7 +2,7 @@
 ghost use Rattle.std.specs.Prelude.{◌≡◌, ◌≢◌, ◌↔◌, ◌⊎◌, ℕ, ◌+◌, ◌-◌, ◌<◌, ◌≤◌, length, IfOk, slice_index, Contains, ℤ, pos};
 
 use crate::NoMemory;
-use crate::lines::{Line, copy_at, exchange_lines, first_row_with, with_sign};
+use crate::lines::{Line, first_row_with, pivot_lines, with_sign};
 use crate::loaded::LoadedRow;
 use crate::places::Places;
 use crate::slack_line::slack_line;
@@ -130,9 +130,8 @@ impl Dictionary {
     {
         let at = row as usize - 1;
         let column = usize::from(col) - 1;
-        let pivot = copy_at(self.lines.as_slice(), at);
-        exchange_lines(self.lines.as_mut_slice(), at, &pivot, column, self.scale);
-        self.scale = with_sign(pivot.get(column), pivot.get(column));
+        let entry = pivot_lines(&mut self.lines, at, column, self.scale);
+        self.scale = with_sign(entry, entry);
         self.places.swap(column, usize::from(self.columns) + 1 + at);
     }
 

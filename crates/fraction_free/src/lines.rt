@@ -1,8 +1,8 @@
 //! One row of a dictionary's numbers.
-ghost use Rattle.std.specs.Prelude.{◌≡◌, ◌≢◌, ℕ, ◌<◌, ◌≤◌, ◌^◌, length, replicate, slice_set, slice_index_or, List, [], ℤ, pos, ◌+ℤ◌, ◌-ℤ◌, ◌*ℤ◌, unsigned_abs};
+ghost use Rattle.std.specs.Prelude.{◌≡◌, ◌≢◌, ℕ, ◌<◌, ◌≤◌, ◌^◌, length, replicate, slice_set, slice_index_or, vec_capacity, List, [], ℤ, pos, ◌+ℤ◌, ◌-ℤ◌, ◌*ℤ◌, unsigned_abs};
 ghost use Rattle.wide_step.specs.Quotient.{HasQuotient};
-ghost use Rattle.fraction_free.specs.Changes.{number_at, with_sign, IsOtherLine, IsPivotLine};
-ghost use Rattle.fraction_free.specs.Representation.{CanExchange};
+ghost use Rattle.fraction_free.specs.Changes.{number_at, with_sign, IsOtherLine, IsPivotLine, IsExchangedAt};
+ghost use Rattle.fraction_free.specs.Representation.{CanExchange, AreExchanged};
 
 use std::marker::Model;
 use wide_step::step;
@@ -84,16 +84,39 @@ impl Line {
             → HasQuotient (number_at pivot.now column *ℤ number_at self.old place -ℤ number_at self.old column *ℤ number_at pivot.now place) scale }
         ensures { IsOtherLine scale column pivot.now self.old self.new }
     {
-        let entry = pivot.get(column);
-        let factor = self.get(column);
         for place in 0..self.len() {
-            if place == column {
-                self.set(place, with_sign(entry, factor));
-            } else {
-                let quotient = step(entry, self.get(place), factor, pivot.get(place), scale);
-                self.set(place, with_sign(entry, quotient));
+            if place != column {
+                self.exchange_at(place, pivot, column, scale);
             }
         }
+        let number = with_sign(pivot.get(column), self.get(column));
+        self.set(column, number);
+    }
+
+    /// One number after a pivot on another row: the difference of products, divided exactly by the
+    /// old scale.
+    fn exchange_at(&mut self, place: usize, pivot: &Line, column: usize, scale: i128)
+        requires len { length pivot.now ≡ length self.old }
+        requires column { column < length self.old }
+        requires place { place < length self.old }
+        requires scale { scale ≢ pos 0 }
+        requires scale_size { unsigned_abs scale < 2 ^ 89 }
+        requires entry_size { unsigned_abs (number_at pivot.now column) < 2 ^ 89 }
+        requires number_size { unsigned_abs (number_at self.old place) < 2 ^ 89 }
+        requires factor_size { unsigned_abs (number_at self.old column) < 2 ^ 89 }
+        requires other_size { unsigned_abs (number_at pivot.now place) < 2 ^ 89 }
+        requires exact { HasQuotient (number_at pivot.now column *ℤ number_at self.old place -ℤ number_at self.old column *ℤ number_at pivot.now place) scale }
+        ensures { IsExchangedAt scale column pivot.now self.old self.new place }
+    {
+        let entry = pivot.get(column);
+        let quotient = step(
+            entry,
+            self.get(place),
+            self.get(column),
+            pivot.get(place),
+            scale,
+        );
+        self.set(place, with_sign(entry, quotient));
     }
 
     /// The line of the variable that was nonbasic, after a pivot on this row.
@@ -103,21 +126,20 @@ impl Line {
         requires sizes { (place : ℕ) → unsigned_abs (number_at self.old place) < 2 ^ 89 }
         ensures { IsPivotLine scale column self.old self.new }
     {
-        let entry = self.get(column);
         for place in 0..self.len() {
-            let value = if place == column {
-                scale
-            } else {
-                -self.get(place)
-            };
-            self.set(place, with_sign(entry, value));
+            if place != column {
+                let number = with_sign(self.get(column), -self.get(place));
+                self.set(place, number);
+            }
         }
+        let number = with_sign(self.get(column), scale);
+        self.set(column, number);
     }
 
     /// Adds a multiple of another line.
     pub fn add(&mut self, other: &Line, times: i128)
         requires len { length other.now ≡ length self.old }
-        requires times { unsigned_abs times ≤ 1 }
+        requires times { unsigned_abs times ≤ 25 }
         requires sizes { (place : ℕ) → unsigned_abs (number_at self.old place) < 2 ^ 100 }
         requires other_sizes { (place : ℕ) → unsigned_abs (number_at other.now place) < 2 ^ 89 }
         ensures len { length self.new ≡ length self.old }
@@ -139,7 +161,7 @@ pub fn with_sign(of: i128, number: i128) -> i128
 }
 
 /// The line at a place.
-pub fn copy_at(lines: &[Line], at: usize) -> Line
+fn copy_at(lines: &[Line], at: usize) -> Line
     requires { at < length lines.now }
     ensures { result ≡ slice_index_or lines.now at [] }
 {
@@ -147,15 +169,27 @@ pub fn copy_at(lines: &[Line], at: usize) -> Line
     line.copy()
 }
 
-/// All lines after a pivot.
-pub fn exchange_lines(lines: &mut [Line], at: usize, pivot: &Line, column: usize, scale: i128)
+/// All lines after a pivot, and the pivot's entry.
+pub fn pivot_lines(lines: &mut Vec<Line>, at: usize, column: usize, scale: i128) -> i128
+    requires at { at < length lines.old.items }
+    requires exact { CanExchange scale at column lines.old.items }
+    ensures entry { result ≡ number_at (slice_index_or lines.old.items at []) column }
+    ensures size { unsigned_abs result < 2 ^ 89 }
+    ensures lines { AreExchanged scale at column lines.old.items lines.new.items }
+    ensures capacity { vec_capacity lines.new ≡ vec_capacity lines.old }
+{
+    let pivot = copy_at(lines.as_slice(), at);
+    let entry = pivot.get(column);
+    exchange_lines(lines.as_mut_slice(), at, &pivot, column, scale);
+    entry
+}
+
+/// All lines after a pivot on the line at a place.
+fn exchange_lines(lines: &mut [Line], at: usize, pivot: &Line, column: usize, scale: i128)
     requires at { at < length lines.old }
     requires pivot { pivot.now ≡ slice_index_or lines.old at [] }
     requires exact { CanExchange scale at column lines.old }
-    ensures len { length lines.new ≡ length lines.old }
-    ensures pivot_line { IsPivotLine scale column pivot.now (slice_index_or lines.new at []) }
-    ensures other_lines { (other : ℕ) → other < length lines.old → other ≢ at
-        → IsOtherLine scale column pivot.now (slice_index_or lines.old other []) (slice_index_or lines.new other []) }
+    ensures { AreExchanged scale at column lines.old lines.new }
 {
     for row in 0..lines.len() {
         let line = &mut lines[row];

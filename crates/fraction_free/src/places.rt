@@ -1,5 +1,5 @@
 //! Which variable stands where.
-ghost use Rattle.std.specs.Prelude.{◌≡◌, ◌≢◌, ℕ, ◌+◌, ◌-◌, ◌<◌, ◌≤◌, ◌^◌, List, [], ◌∷◌, ◌++◌, length, take, swap, slice_index, IfOk};
+ghost use Rattle.std.specs.Prelude.{◌≡◌, ◌≢◌, ℕ, ◌+◌, ◌-◌, ◌<◌, ◌≤◌, ◌^◌, List, [], ◌∷◌, ◌++◌, length, take, swap, slice_index, IfOk, vec_len, vec_capacity};
 ghost use Rattle.std.specs.List.{range_with_len};
 ghost use Rattle.fraction_free.specs.Arrangement.{IsArrangement};
 
@@ -44,14 +44,10 @@ impl Places {
     {
         self.order.clear();
         self.place.clear();
-        for column in 0..u32::from(columns) {
-            let _pushed = self.order.push(column + 1);
-        }
-        let _pushed = self.order.push(0);
-        let _pushed = self.place.push(u32::from(columns));
-        for column in 0..u32::from(columns) {
-            let _pushed = self.place.push(column);
-        }
+        count_up(&mut self.order, 1, u32::from(columns));
+        append(&mut self.order, 0);
+        append(&mut self.place, u32::from(columns));
+        count_up(&mut self.place, 0, u32::from(columns));
     }
 
     /// The number at a place.
@@ -93,8 +89,8 @@ impl Places {
         ensures arrangement { IsArrangement self.new.order }
     {
         let next = self.order.len() as u32;
-        let _pushed = self.order.push(next);
-        let _pushed = self.place.push(next);
+        append(&mut self.order, next);
+        append(&mut self.place, next);
     }
 
     /// Takes away the last number, which stands at the last place.
@@ -106,5 +102,28 @@ impl Places {
     {
         let _number = self.order.pop();
         let _place = self.place.pop();
+    }
+}
+
+/// Appends a number where there is room for it.
+fn append(numbers: &mut Vec<u32>, number: u32)
+    requires { vec_len numbers.old < vec_capacity numbers.old }
+    ensures items { numbers.new.items ≡ numbers.old.items ++ number ∷ [] }
+    ensures len { vec_len numbers.new ≡ vec_len numbers.old + 1 }
+    ensures capacity { vec_capacity numbers.old ≤ vec_capacity numbers.new }
+{
+    let _pushed = numbers.push(number);
+}
+
+/// Appends so many numbers that rise by one.
+fn count_up(numbers: &mut Vec<u32>, from: u32, count: u32)
+    requires room { vec_len numbers.old + count ≤ vec_capacity numbers.old }
+    requires small { from + count < 2 ^ 32 }
+    ensures items { numbers.new.items ≡ numbers.old.items ++ range_with_len from count }
+    ensures len { vec_len numbers.new ≡ vec_len numbers.old + count }
+    ensures capacity { vec_capacity numbers.old ≤ vec_capacity numbers.new }
+{
+    for number in from..from + count {
+        append(numbers, number);
     }
 }
