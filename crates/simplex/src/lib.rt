@@ -9,6 +9,8 @@ mod found;
 mod point;
 mod row_weights;
 mod solver;
+#[cfg(test)]
+mod tests;
 
 pub use divisor::common_divisor;
 pub use found::{Clash, Found};
