@@ -1,5 +1,5 @@
 -- The step of the loop that writes the differences criterion by criterion.
-use Rattle.std.proofs.Common.{◌≡◌, ℕ, ◌+◌, ◌-◌, ◌≤◌, ◌<◌, ◌∙◌, min, List, ◌++◌, length, take, drop, get_or, ℤ, ap, ap₂, sym, arith, length-take, length-drop}
+use Rattle.std.proofs.Common.{◌≡◌, ℕ, ◌+◌, ◌-◌, ◌≤◌, ◌<◌, ◌∙◌, List, ◌++◌, length, take, drop, get_or, ℤ, ap, ap₂, sym, arith, length-take, length-drop}
 use Rattle.std.proofs.lemmas.List.Sums.{sum_by_more, sum_by_more_le}
 use Rattle.std.proofs.lemmas.Slice.{take-put_mid}
 use borrow.Rule.Slice.PartMut.{put_mid, same_len_mid}

@@ -1,8 +1,8 @@
 -- Which of two lists of levels is higher somewhere, and what filling cancelled places changes.
-use Rattle.std.proofs.Common.{◌≡◌, ◌≢◌, ◌⊎◌, inl, inr, ℕ, zero, suc, ◌+◌, ◌≤◌, ◌<◌, max, List, [], ◌∷◌, length, map, get_or, refl, ap, sym, ◌∙◌, subst, arith}
+use Rattle.std.proofs.Common.{◌≡◌, ◌≢◌, ◌⊎◌, inl, inr, ℕ, zero, suc, ◌≤◌, ◌<◌, max, List, [], ◌∷◌, length, get_or, ap, sym, ◌∙◌, arith}
 use Rattle.std.proofs.lemmas.List.{get_or-map, length-map, ext_get_or}
 use Rattle.criteria_model.specs.declared.pairs.Pair.{Pair}
-use Rattle.criteria_model.specs.Alternatives.{filled, IsAtLeast, IsSomewhereHigher, IsDominated, IsUndominated}
+use Rattle.criteria_model.specs.Alternatives.{filled, IsAtLeast, IsSomewhereHigher}
 use Rattle.criteria_model.specs.Pairs.{FitsAt, IsFit}
 use Rattle.criteria_model.specs.Laws.{UndominatedIsNotDominated}
 
@@ -65,9 +65,9 @@ higher_or_not [] (y ∷ b) e = absurd (omega arith)
 higher_or_not (x ∷ a) [] e = absurd (omega arith)
 higher_or_not (x ∷ a) (y ∷ b) e =
     elim (lt_or_le y x) [
-        inl h ↦ inl (0, omega arith, h)
+      | inl h ↦ inl (0, omega arith, h)
       | inr h ↦ elim (higher_or_not a b (omega arith)) [
-          inl r ↦ inl (suc r.0, omega (arith, r.1), r.2)
+        | inl r ↦ inl (suc r.0, omega (arith, r.1), r.2)
         | inr r ↦ inr (at_least_more x y a b h r)
       ]
     ]
@@ -84,15 +84,18 @@ higher_differs a b (k, l, p) e = omega (arith, ap (λ xs. get_or xs k 0) e)
 
 pub undominated_is_not_dominated_lem : UndominatedIsNotDominated
 undominated_is_not_dominated_lem a b e = (
-    λ u. (higher_differs a b u.0, λ d. elim d.1 [
-        inl h ↦ at_least_not_higher a b e h u.1
+  λ u. (
+    higher_differs a b u.0,
+    λ d. elim d.1 [
+      | inl h ↦ at_least_not_higher a b e h u.1
       | inr h ↦ at_least_not_higher b a (sym e) h u.0
-    ]),
-    λ d. (
-      elim (higher_or_not a b e) [ inl h ↦ h | inr h ↦ absurd (d.1 (d.0, inr h)) ],
-      elim (higher_or_not b a (sym e)) [ inl h ↦ h | inr h ↦ absurd (d.1 (d.0, inl h)) ]
-    )
-  )
+    ],
+  ),
+  λ d. (
+    elim (higher_or_not a b e) [ inl h ↦ h | inr h ↦ absurd (d.1 (d.0, inr h)) ],
+    elim (higher_or_not b a (sym e)) [ inl h ↦ h | inr h ↦ absurd (d.1 (d.0, inl h)) ],
+  ),
+)
 
 -- ---- the dominance of filled pairs, from the written levels
 pub filled_same : (levels a b : List ℕ) → AreWritten levels a b → ¬ IsSomewhereHigher a b → ¬ IsSomewhereHigher b a → filled a ≡ filled b
@@ -103,6 +106,7 @@ filled_same levels a b w n m =
 pub filled_higher : (levels a b : List ℕ) → AreWritten levels a b → IsSomewhereHigher a b → ¬ IsSomewhereHigher b a → (filled a ≢ filled b) × IsAtLeast (filled a) (filled b)
 filled_higher levels a b w h n =
     let e : length a ≡ length b = w.len ∙ sym w.other_len in
-    let f : length (filled b) ≡ length (filled a) = length-filled b ∙ sym e ∙ sym (length-filled a) in
-    (higher_differs (filled a) (filled b) (higher_filled levels a b w h),
-     not_higher (filled b) (filled a) f (λ p. n (higher_unfilled b a (sym e) p)))
+    let f : length (filled b) ≡ length (filled a) = length-filled b ∙ sym e ∙ sym (length-filled a) in (
+      higher_differs (filled a) (filled b) (higher_filled levels a b w h),
+      not_higher (filled b) (filled a) f (λ p. n (higher_unfilled b a (sym e) p)),
+    )

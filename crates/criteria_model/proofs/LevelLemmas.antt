@@ -1,5 +1,5 @@
 -- Increments and the rows of alternatives.
-use Rattle.std.proofs.Common.{◌⊎◌, inl, inr, ◌≤ℤ◌, ◌≡◌, ℕ, zero, suc, ◌+◌, ◌-◌, ◌≤◌, ◌<◌, max, List, [], ◌∷◌, ◌++◌, length, map, take, drop, replicate, get_or, All, sum_by, ℤ, pos, ◌-ℤ◌, refl, ap, ap₂, sym, ◌∙◌, arith, length-append, append_assoc, append-nil, length-take, cond, nat_lt, unsigned_abs, true, false, ◌*◌}
+use Rattle.std.proofs.Common.{◌⊎◌, inl, inr, ◌≤ℤ◌, ◌≡◌, ℕ, zero, suc, ◌+◌, ◌-◌, ◌≤◌, ◌<◌, max, List, [], ◌∷◌, ◌++◌, length, map, take, replicate, get_or, All, ℤ, pos, ◌-ℤ◌, refl, ap, ap₂, sym, ◌∙◌, arith, length-append, append_assoc, append-nil, length-take, cond, nat_lt, unsigned_abs, true, false}
 use Rattle.std.specs.List.{range_with_len}
 use Rattle.std.proofs.lemmas.List.{take_more, take-replicate, replicate-append-replicate}
 use Rattle.std.proofs.lemmas.Int.{ints}
@@ -67,7 +67,7 @@ pub has-take_more : (counts alternative : List ℕ) (i : ℕ) → i < length cou
 has-take_more counts alternative i l e =
     rw (take_more counts i 0 l, take_more alternative i 0 (omega arith))
     (has-append (take i counts) (get_or counts i 0 ∷ []) (take i alternative) (get_or alternative i 0 ∷ []) (simp length-take (omega arith))
-     ∙ ap (λ r. has (take i counts) (take i alternative) ++ r) (has-one (get_or counts i 0) (get_or alternative i 0)))
+    ∙ ap (λ r. has (take i counts) (take i alternative) ++ r) (has-one (get_or counts i 0) (get_or alternative i 0)))
 
 pub minus-has-take_more : (counts high low : List ℕ) (i : ℕ) → i < length counts → length high ≡ length counts → length low ≡ length counts
     → minus (has (take (i + 1) counts) (take (i + 1) high)) (has (take (i + 1) counts) (take (i + 1) low))
@@ -88,7 +88,7 @@ bits-append xs ys h k = All-append IsBit xs ys h k
 
 bits-lies_above : (level i : ℕ) → IsBit (lies_above level i)
 bits-lies_above level i = elim (nat_lt i level) as (λ b. IsBit (cond b (pos 1) (pos 0))) [
-    true ↦ record { low = omega (arith, ints); high = omega (arith, ints) }
+  | true ↦ record { low = omega (arith, ints); high = omega (arith, ints) }
   | false ↦ record { low = omega (arith, ints); high = omega (arith, ints) }
 ]
 

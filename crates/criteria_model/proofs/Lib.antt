@@ -5,5 +5,5 @@ pub mod ListLemmas
 pub mod DominanceLemmas
 pub mod CountLemmas
 pub mod DotLemmas
-pub mod ReplicaLemmas
+pub mod GainLemmas
 pub mod DifferenceSteps

@@ -1,9 +1,9 @@
 -- Sums, differences, multiples and products of rows.
-use Rattle.std.proofs.Common.{◌≡◌, ℕ, suc, ◌+◌, ◌-◌, ◌≤◌, ◌<◌, max, List, [], ◌∷◌, ◌++◌, length, map, take, drop, replicate, All, ℤ, pos, ◌+ℤ◌, ◌-ℤ◌, ◌*ℤ◌, neg_ℤ, refl, ap, ap₂, sym, ◌∙◌, arith, get_or, length-take}
+use Rattle.std.proofs.Common.{◌≡◌, ℕ, suc, ◌+◌, ◌<◌, max, List, [], ◌∷◌, ◌++◌, length, map, take, replicate, ℤ, pos, ◌+ℤ◌, ◌-ℤ◌, ◌*ℤ◌, neg_ℤ, refl, ap, ap₂, sym, ◌∙◌, arith, get_or, length-take}
 use Rattle.std.proofs.lemmas.Int.{ints}
 use Rattle.std.proofs.lemmas.List.{take_more}
 use Rattle.criteria_model.specs.Rows.{dot, plus, minus, times}
-use Rattle.criteria_model.proofs.Integers.{mul-add, mul-neg, mul-sub, mul_left_comm, mul-zero, zero-mul}
+use Rattle.criteria_model.proofs.Integers.{mul-add, mul-neg, mul-sub, mul_left_comm, mul-zero}
 
 -- ---- the product is linear in its second row
 pub dot-nil : (v : List ℤ) → dot v [] ≡ pos 0
@@ -75,7 +75,7 @@ dot-take_more a b i l e =
     let same : length (take i a) ≡ length (take i b) = simp length-take (omega arith) in
     rw (take_more a i (pos 0) l, take_more b i (pos 0) m)
     (dot-append (take i a) (get_or a i (pos 0) ∷ []) (take i b) (get_or b i (pos 0) ∷ []) same
-     ∙ ap (λ z. dot (take i a) (take i b) +ℤ z) (omega (arith, ints)))
+    ∙ ap (λ z. dot (take i a) (take i b) +ℤ z) (omega (arith, ints)))
 
 -- ---- zeros
 pub minus-zeros : (a : List ℤ) → minus a (replicate (length a) (pos 0)) ≡ a

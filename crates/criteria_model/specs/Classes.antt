@@ -1,7 +1,6 @@
 -- Classes and their list. Degree, replicas and classes are worded for this project.
 use Rattle.std.specs.Prelude.{◌≡◌, ◌↔◌, ℕ, ◌≤◌, List, [], ◌∷◌, zip, ◌==◌, if◌then◌else◌, flat_map, AllPairs, Contains}
 use Rattle.std.specs.Ordering.{nat_cmp}
-use Rattle.std.specs.declared.cmp.Ordering.{Ordering}
 use Rattle.std.specs.declared.cmp.Ordering.TheVariants.{Less}
 use Rattle.std.specs.Cmp.Lexicographic.{slice_cmp}
 use Rattle.criteria_model.specs.declared.pairs.Pair.{Pair}

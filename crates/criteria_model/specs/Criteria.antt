@@ -1,6 +1,5 @@
 -- Models: the criteria's level counts and the degree limit, within this project's limits.
-use Rattle.std.specs.Prelude.{◌≡◌, ℕ, ◌+◌, ◌≤◌, List, length, All, nat_lt, ◌==◌, ◌||◌, if◌then◌else◌, Option, Some, None}
-use Rattle.std.specs.List.{position_or_len}
+use Rattle.std.specs.Prelude.{ℕ, ◌≤◌, List, length, All}
 use Rattle.criteria_model.specs.Worth.{increments}
 use Rattle.criteria_model.specs.Counts.{class_count}
 

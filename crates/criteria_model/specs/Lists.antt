@@ -1,6 +1,6 @@
 -- Lists of at most 24 items, and how they lie in 24 cells.
-use Rattle.std.specs.Prelude.{◌≡◌, ℕ, ◌-◌, ◌^◌, ◌<◌, ◌≤◌, List, ◌++◌, length, take, drop, replicate, All, ℤ, pos, negsuc, ◌≤ℤ◌, unsigned_abs, refl}
-use Rattle.std.proofs.Common.{ap, sym, ◌∙◌, append_assoc, take-append-drop, length-append, length-take, arith}
+use Rattle.std.specs.Prelude.{◌≡◌, ℕ, ◌-◌, ◌^◌, ◌<◌, ◌≤◌, List, ◌++◌, length, take, drop, replicate, All, ℤ, unsigned_abs}
+use Rattle.std.proofs.Common.{ap, sym, ◌∙◌, take-append-drop, length-take, arith}
 
 -- a list that a `Tuple` holds: 1 to 24 numbers from 0 to 25
 pub record IsTuple (items : List ℕ) : Type 0 where

@@ -14,7 +14,9 @@ ghost use Rattle.criteria_model.specs.Classes.{IsClass as IsClassOf};
 use crate::counting::{count_classes, count_increments, first_low, tuple_of};
 use crate::differences::differences;
 use crate::faults::ModelFault;
-use crate::levels::{all_fit, degree, is_cancelled, is_left_first, is_somewhere_higher, is_undominated};
+use crate::levels::{
+    all_fit, degree, is_cancelled, is_left_first, is_somewhere_higher, is_undominated,
+};
 use crate::pairs::{Dominance, Pair, Side};
 use crate::rows::Row;
 use crate::tuples::Tuple;
@@ -47,10 +49,10 @@ impl std::marker::Model for Model {
     ghost use Rattle.std.proofs.Common.{sym, refl};
 
     ghost inverse_ok = { λ m h i. record {
-        counts = m.counts;
-        limit = m.limit;
-        steps = sym h.1 i;
-        classes = sym h.2 i;
+      counts = m.counts;
+      limit = m.limit;
+      steps = sym h.1 i;
+      classes = sym h.2 i;
     } };
 }
 
@@ -148,9 +150,7 @@ impl Model {
         let counts = self.counts.as_slice();
         let left = pair.left.as_slice();
         let right = pair.right.as_slice();
-        left.len() == counts.len()
-            && right.len() == counts.len()
-            && all_fit(counts, left, right)
+        left.len() == counts.len() && right.len() == counts.len() && all_fit(counts, left, right)
     }
 
     /// For each increment, whether the left side has it minus whether the right side has it.
@@ -180,7 +180,10 @@ impl Model {
     {
         let left = pair.left.as_slice();
         let right = pair.right.as_slice();
-        match (is_somewhere_higher(left, right), is_somewhere_higher(right, left)) {
+        match (
+            is_somewhere_higher(left, right),
+            is_somewhere_higher(right, left),
+        ) {
             (false, false) => Dominance::Same,
             (true, false) => Dominance::LeftHigher,
             (false, true) => Dominance::RightHigher,
@@ -235,3 +238,6 @@ impl Model {
         Row::of(&cells[..usize::from(self.steps)])
     }
 }
+
+#[cfg(test)]
+mod tests;

@@ -24,8 +24,8 @@ impl Model for Row {
     ghost inverse = { λ items. record { items = padded (pos 0) items; len = length items } };
 
     ghost inverse_ok = { λ t h i. record {
-        items = padded-take (pos 0) t.len t.items h.0 i;
-        len = length-padded (pos 0) t.len t.items h.0 i;
+      items = padded-take (pos 0) t.len t.items h.0 i;
+      len = length-padded (pos 0) t.len t.items h.0 i;
     } };
 }
 

@@ -24,8 +24,8 @@ impl Model for Tuple {
     ghost inverse = { λ items. record { items = padded 0 items; len = length items } };
 
     ghost inverse_ok = { λ t h i. record {
-        items = padded-take 0 t.len t.items h.0 i;
-        len = length-padded 0 t.len t.items h.0 i;
+      items = padded-take 0 t.len t.items h.0 i;
+      len = length-padded 0 t.len t.items h.0 i;
     } };
 }
 

@@ -1,7 +1,7 @@
-use Rattle.std.proofs.Common.{◌≡◌, ◌+◌, ◌-◌, ◌*◌, ◌%◌, ◌^◌, ◌<◌, ◌≤◌, ◌∙◌, sym, ap, ap₂, get_or, arith, sum_by, pow_mono}
+use Rattle.std.proofs.Common.{◌≡◌, ◌+◌, ◌-◌, ◌*◌, ◌%◌, ◌^◌, ◌<◌, ◌∙◌, sym, ap, ap₂, get_or, arith, sum_by}
 use Rattle.std.specs.List.{range_with_len}
 use Rattle.std.proofs.lemmas.Nat.{pow_pos}
-use Rattle.criteria_model.specs.Counts.{level_pairs, class_count, classes_of_degree}
+use Rattle.criteria_model.specs.Counts.{class_count, classes_of_degree}
 use Rattle.criteria_model.proofs.LevelLemmas.{length-le-increments}
 use Rattle.criteria_model.proofs.CountLemmas.{shifted_one, classes_of_degree_small, count-more, term_is}
 use Rattle.criteria_model.proofs.counting.count_classes.Goals as goal

@@ -1,4 +1,4 @@
-use Rattle.std.proofs.Common.{ℕ, ◌<◌, nat_lt, sym, arith, lt-ltb, le-ltb, get_or}
+use Rattle.std.proofs.Common.{nat_lt, sym, arith, lt-ltb, le-ltb}
 use Rattle.std.proofs.lemmas.List.Sums.{position_or_len_is}
 use Rattle.criteria_model.proofs.counting.first_low.Goals as goal
 

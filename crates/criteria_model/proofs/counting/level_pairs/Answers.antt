@@ -1,4 +1,4 @@
-use Rattle.std.proofs.Common.{◌≡◌, ◌-◌, ◌<◌, ◌∙◌, ◌∷◌, sym, ap, get_or, drop, arith}
+use Rattle.std.proofs.Common.{◌∙◌, ◌∷◌, sym, ap, drop, arith}
 use Rattle.criteria_model.specs.Counts.{level_pairs}
 use Rattle.criteria_model.proofs.CountLemmas.{level_pairs-drop-small, table_more, drop-back}
 use Rattle.criteria_model.proofs.counting.level_pairs.Goals as goal

@@ -1,6 +1,5 @@
-use Rattle.std.proofs.Common.{◌≡◌, ◌≤◌, length, get_or, length-set, take-suc-set, arith, rules, ◌∙◌, sym, ap, ◌++◌, ◌∷◌, []}
+use Rattle.std.proofs.Common.{get_or, length-set, arith}
 use Rattle.std.proofs.lemmas.List.{take_more_set, take_more}
-use Rattle.std.proofs.lemmas.Grind.{common_steps}
 use Rattle.criteria_model.proofs.LevelLemmas.{few_increments_fit, length-le-increments}
 use Rattle.criteria_model.proofs.counting.tuple_of.Goals as goal
 

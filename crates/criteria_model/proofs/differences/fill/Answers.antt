@@ -1,4 +1,4 @@
-use Rattle.std.proofs.Common.{◌≡◌, ◌+◌, ◌∙◌, ap, sym, length, take, arith, ◌++◌, ◌∷◌, [], SFits, to_z-of_z, w8, rules, ℕ}
+use Rattle.std.proofs.Common.{◌≡◌, ◌+◌, ◌∙◌, ap, sym, length, arith, ◌++◌, ◌∷◌, [], SFits, to_z-of_z, w8, rules, ℕ}
 use Rattle.std.proofs.lemmas.List.{take_more_set, take_all}
 use Rattle.criteria_model.specs.Rows.{minus}
 use Rattle.criteria_model.specs.Worth.{has_on}
@@ -10,9 +10,9 @@ loop-place-preserved c =
     let fits : SFits w8 c.difference_at.result = search rules in
     rw (to_z-of_z fits)
     (take_more_set c.loop-place.cells c.loop-place.place c.difference_at.result (omega arith)
-     ∙ ap (λ r. r ++ c.difference_at.result ∷ []) c.loop-place.invariant
-     ∙ ap (λ x. minus (has_on (c.loop-place.place + 1) c.args.high) (has_on (c.loop-place.place + 1) c.args.low) ++ x ∷ []) c.difference_at.ensures
-     ∙ sym (minus-has_on-more c.loop-place.place c.args.high c.args.low))
+    ∙ ap (λ r. r ++ c.difference_at.result ∷ []) c.loop-place.invariant
+    ∙ ap (λ x. minus (has_on (c.loop-place.place + 1) c.args.high) (has_on (c.loop-place.place + 1) c.args.low) ++ x ∷ []) c.difference_at.ensures
+    ∙ sym (minus-has_on-more c.loop-place.place c.args.high c.args.low))
 
 pub returns : goal.returns
 returns c =

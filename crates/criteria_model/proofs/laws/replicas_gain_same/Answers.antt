@@ -1,4 +1,4 @@
-use Rattle.criteria_model.proofs.ReplicaLemmas.{replicas_gain_same_lem}
+use Rattle.criteria_model.proofs.GainLemmas.{replicas_gain_same_lem}
 use Rattle.criteria_model.proofs.laws.replicas_gain_same.Goals as goal
 
 pub returns : goal.returns

@@ -1,4 +1,4 @@
-use Rattle.std.proofs.Common.{◌≡◌, ◌∙◌, sym, ap, subst, take, length, arith}
+use Rattle.std.proofs.Common.{◌≡◌, ◌∙◌, sym, ap, subst, take, length}
 use Rattle.criteria_model.specs.Lists.{IsRow}
 use Rattle.criteria_model.proofs.LevelLemmas.{minus-has-fits}
 use Rattle.criteria_model.proofs.models.Model.difference.Goals as goal

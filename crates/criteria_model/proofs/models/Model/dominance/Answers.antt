@@ -1,4 +1,4 @@
-use Rattle.std.proofs.Common.{◌≢◌, sym, refl, ap, IsTrue, true, false, true≢false, subst₂, List, ℕ}
+use Rattle.std.proofs.Common.{sym, refl, IsTrue, false, true≢false, subst₂}
 use Rattle.criteria_model.specs.Alternatives.{IsSomewhereHigher}
 use Rattle.criteria_model.proofs.DominanceLemmas.{written, written_turned, filled_higher, filled_same}
 use Rattle.criteria_model.proofs.models.Model.dominance.Goals as goal

@@ -11,8 +11,7 @@ returns c =
     let fits = c.if-not-fits.ensures.0 refl in
     let apart = subst₂ IsUndominated l r (c.if-not-is_undominated.ensures.0 refl) in
     let differ : c.degree.result ≡ degree c.args.pair.now.left c.args.pair.now.right = c.degree.ensures.value ∙ ap₂ degree l r in
-    let limit : c.from.result ≡ c.args.self.now.degree = c.from.ensures ∙ ap (λ m. m.degree) c.self.view_is in
-    (
+    let limit : c.from.result ≡ c.args.self.now.degree = c.from.ensures ∙ ap (λ m. m.degree) c.self.view_is in (
       λ t. record {
         fits = fits;
         cancelled = subst₂ IsCancelled l r (c.if-not-is_cancelled.ensures.0 refl);
@@ -20,5 +19,5 @@ returns c =
         undominated = (higher_filled _ _ _ (written _ _ fits) apart.0, higher_filled _ _ _ (written_turned _ _ fits) apart.1);
         within = omega (arith, leb-true c.degree.result c.from.result t, differ, limit);
       },
-      λ h. le-leb c.degree.result c.from.result (omega (arith, h.within, differ, limit))
+      λ h. le-leb c.degree.result c.from.result (omega (arith, h.within, differ, limit)),
     )

@@ -1,4 +1,4 @@
-use Rattle.std.proofs.Common.{◌≡◌, ◌<◌, ◌≤◌, ◌^◌, ◌∙◌, ap, ap₂, sym, subst, length, take, get_or, arith, ℤ, pos, unsigned_abs, ◌+ℤ◌, ◌*ℤ◌, to_z}
+use Rattle.std.proofs.Common.{◌≡◌, ◌<◌, ◌≤◌, ◌^◌, ◌∙◌, ap, ap₂, sym, subst, length, get_or, arith, ℤ, pos, unsigned_abs, ◌+ℤ◌, ◌*ℤ◌, to_z}
 use mir.Syntax.{w8, w128}
 use Rattle.std.proofs.lemmas.Int.{fits_signed_from_abs, to_z-of_z}
 use Rattle.std.proofs.lemmas.List.{take_all}
@@ -36,8 +36,8 @@ loop-place-preserved c =
     let total = total_is c.loop-place.place (to_z w128 c.loop-place.sum-bits) (get_or c.as_slice-values.result.now c.loop-place.place (pos 0)) c.from.result (omega (arith, c.as_slice-values.ensures.range.most)) c.loop-place.invariant.size (value_size c) (factor_size c) in
     record {
       sum = total
-        ∙ ap₂ (λ s f. s +ℤ get_or c.as_slice-values.result.now c.loop-place.place (pos 0) *ℤ f) c.loop-place.invariant.sum (factor_is c)
-        ∙ sym (dot-take_more c.as_slice-values.result.now c.as_slice-factors.result.now c.loop-place.place (omega arith) (same_len c));
+          ∙ ap₂ (λ s f. s +ℤ get_or c.as_slice-values.result.now c.loop-place.place (pos 0) *ℤ f) c.loop-place.invariant.sum (factor_is c)
+          ∙ sym (dot-take_more c.as_slice-values.result.now c.as_slice-factors.result.now c.loop-place.place (omega arith) (same_len c));
       size = rw total (next_sum_size c.loop-place.place (to_z w128 c.loop-place.sum-bits) (get_or c.as_slice-values.result.now c.loop-place.place (pos 0)) c.from.result c.loop-place.invariant.size (value_size c) (factor_size c));
     }
 
@@ -47,7 +47,7 @@ returns c =
     let same : length c.as_slice-factors.result.now ≡ length c.as_slice-values.result.now = ap length c.as_slice-factors.ensures.value ∙ c.requires ∙ sym (ap length c.as_slice-values.ensures.value) in
     record {
       value = c.loop-place.invariant.sum
-        ∙ ap₂ dot (take_all c.loop-place.place c.as_slice-values.result.now (omega arith)) (take_all c.loop-place.place c.as_slice-factors.result.now (omega arith))
-        ∙ ap₂ dot c.as_slice-values.ensures.value c.as_slice-factors.ensures.value;
+          ∙ ap₂ dot (take_all c.loop-place.place c.as_slice-values.result.now (omega arith)) (take_all c.loop-place.place c.as_slice-factors.result.now (omega arith))
+          ∙ ap₂ dot c.as_slice-values.ensures.value c.as_slice-factors.ensures.value;
       range = omega (arith, c.loop-place.invariant.size, c.as_slice-values.ensures.range.most);
     }

@@ -1,4 +1,4 @@
-use Rattle.std.proofs.Common.{pos, replicate, drop, length, sym, subst, List, ℤ, ◌++◌, take, ◌∙◌}
+use Rattle.std.proofs.Common.{pos, replicate, drop, length, sym, subst, List, ℤ, ◌++◌, take}
 use Rattle.std.proofs.Math.Seq.{take-append_seam}
 use Rattle.criteria_model.specs.Lists.{IsVector, IsPadded}
 use Rattle.criteria_model.proofs.ListLemmas.{written_over}

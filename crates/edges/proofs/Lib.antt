@@ -1,0 +1,5 @@
+pub mod LineLaws
+pub mod LineLemmas
+pub mod PartLemmas
+pub mod RefillLemmas
+pub mod ToldLemmas
