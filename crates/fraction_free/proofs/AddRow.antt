@@ -7,7 +7,8 @@ use Rattle.minors.specs.Combination.{dot as dot_of}
 use Rattle.minors.proofs.Ring.{cancel}
 use Rattle.fraction_free.specs.declared.loaded.LoadedRow.{LoadedRow}
 use Rattle.fraction_free.specs.Arrangement.{IsArrangement, Arranged}
-use Rattle.fraction_free.specs.Tableau.{IsLoadable, HasSlacks, Satisfies, loaded_at, no_row, slack_of}
+use Rattle.fraction_free.specs.Changes.{AddsRow, next_count}
+use Rattle.fraction_free.specs.Tableau.{Tableau, IsLoadable, HasSlacks, Satisfies, loaded_at, no_row, slack_of}
 use Rattle.fraction_free.specs.Representation.{unit, row_of, table_row, square_of, tableau_of, IsMinorTableau, IsKept, CanCombine}
 use Rattle.fraction_free.proofs.Table.{table_row-constant, table_row-increment, table_row-slack}
 use Rattle.fraction_free.proofs.Values.{combination_value, slack_value, point_of}
@@ -47,14 +48,14 @@ pub square_same : (m : ℕ) (l more : List LoadedRow) (order longer : List ℕ) 
 square_same m l more order longer h len columns below =
     ap (map (table_row m more)) columns
     ∙ map_same (table_row m more) (table_row m l) (take (m + 1) order)
-      (λ k inside.
-        let k_in : k < m + 1 = omega (arith, length-take-le (m + 1) order (omega arith)) in
-        table_row_same m l more (get_or (take (m + 1) order) k 0) h (omega (arith, get_or-take (m + 1) order k 0 k_in, below k (omega arith))))
+    (λ k inside.
+    let k_in : k < m + 1 = omega (arith, length-take-le (m + 1) order (omega arith)) in
+    table_row_same m l more (get_or (take (m + 1) order) k 0) h (omega (arith, get_or-take (m + 1) order k 0 k_in, below k (omega arith))))
 
 -- ---- a row more
 
 -- a combination along equations of its parts
-moved : (a : ℤ) (r q f g : List ℤ) (xs ys : List (List ℤ)) → r ≡ q → f ≡ g → xs ≡ ys → IsCombination a q g ys → IsCombination a r f xs
+pub moved : (a : ℤ) (r q f g : List ℤ) (xs ys : List (List ℤ)) → r ≡ q → f ≡ g → xs ≡ ys → IsCombination a q g ys → IsCombination a r f xs
 moved a r q f g xs ys j k n comb = rw (j, k, n) comb
 
 pub added_minors : (m : ℕ) (l : List LoadedRow) (s : ℤ) (order : List ℕ) (lines : List (List ℤ)) (row : LoadedRow) (line : List ℤ)
@@ -94,6 +95,7 @@ added_minors m l s order lines row line t loadable comb arranged = record {
   where
     last_row : (i : ℕ) → i ≡ length l → loaded_at (l ++ row ∷ []) i ≡ row
     last_row i e = get_or_at l row [] no_row i (sym e)
+
     squares : square_of m (l ++ row ∷ []) (order ++ length order ∷ []) ≡ square_of m l order
     squares = square_same m l (l ++ row ∷ []) order (order ++ length order ∷ []) (begins_with_push l row) t.order_len (take-append-le (m + 1) order (length order ∷ []) (omega (arith, t.order_len))) t.variables.below
 
@@ -108,18 +110,23 @@ added_solutions m l s order lines row line a b e f g h x t new loadable comb sol
   where
     longer : List ℕ
     longer = order ++ length order ∷ []
+
     columns : take (m + 1) longer ≡ take (m + 1) order
     columns = take-append-le (m + 1) order (length order ∷ []) (omega (arith, t.order_len))
+
     all : Equations m (length (l ++ row ∷ [])) s longer (lines ++ line ∷ []) x
     all = equations_of m (l ++ row ∷ []) s longer (lines ++ line ∷ []) a b g h x new.order_len new.constant satisfied
+
     old : Equations m (length l) s order lines x
     old i below =
         ap (λ k. s *ℤ x k) (sym (get_or_append_left order (length order ∷ []) 0 (m + 1 + i) (omega (arith, t.order_len))))
         ∙ all i (omega (arith, length_push l row))
         ∙ ap (λ (f : List ℤ). dot_of f (map x (take (m + 1) longer))) (get_or_append_left lines (line ∷ []) [] i (omega (arith, t.lines_len)))
         ∙ ap (λ vs. dot_of (get_or lines i []) (map x vs)) columns
+
     slacks : HasSlacks m l x
     slacks = solutions (satisfies_from m l s order lines a b e f x t.order_len t.constant old)
+
     last : s *ℤ x (length order) ≡ s *ℤ slack_of m row x
     last =
         ap (λ k. s *ℤ x k) (sym (get_or_at order (length order) [] 0 (m + 1 + length l) t.order_len))
@@ -128,6 +135,7 @@ added_solutions m l s order lines row line a b e f g h x t new loadable comb sol
         ∙ ap (λ vs. dot_of line (map x vs)) columns
         ∙ sym (combination_value m l s order x (row_of row) line t.order_len t.variables t.rows slacks comb)
         ∙ ap (λ (n : ℤ). s *ℤ n) (slack_value m row x loadable.len)
+
     slack : (i : ℕ) → (i < length l) ⊎ (length l ≤ i) → i < length l + 1 → x (m + 1 + i) ≡ slack_of m (loaded_at (l ++ row ∷ []) i) x
     slack i (inl inside) below = slacks.each i inside ∙ ap (λ (r : LoadedRow). slack_of m r x) (sym ((begins_with_push l row).same i inside))
     slack i (inr past) below =
@@ -165,3 +173,27 @@ can_combine m l s order lines t = record {
   len = λ row below. line_len m l s order lines row t (omega (arith, t.lines_len));
   sizes = λ row place. number_fits m l s order lines row place t;
 }
+
+pub added_view : (m : ℕ) (l new_l : List LoadedRow) (s : ℤ) (places new_places : Arranged) (lines new_lines : List (List ℤ)) (row : LoadedRow) (line : List ℤ) (a b e f g : ℕ) (old : Tableau)
+    → tableau_of m l s places.order lines a b e f ≡ old → length places.order ≡ m + 1 + length l
+    → new_l ≡ l ++ row ∷ [] → new_lines ≡ lines ++ line ∷ [] → new_places ≡ record places { order = places.order ++ length places.order ∷ [] } → g ≡ next_count f
+    → AddsRow old (tableau_of m new_l s new_places.order new_lines a b e g) row
+added_view m l new_l s places new_places lines new_lines row line a b e f g old is len l_is lines_are places_are count =
+    subst (λ (t : Tableau). AddsRow t (tableau_of m new_l s new_places.order new_lines a b e g) row) is (record { line = line; is = new })
+  where
+    order : List ℕ
+    order = places.order
+
+    columns : take m (order ++ length order ∷ []) ≡ take m order
+    columns = take-append-le m order (length order ∷ []) (omega arith)
+
+    rows : drop (m + 1) (order ++ length order ∷ []) ≡ drop (m + 1) order ++ (m + 1 + length l) ∷ []
+    rows = drop-append-le (m + 1) order (length order ∷ []) (omega arith) ∙ ap (λ n. drop (m + 1) order ++ n ∷ []) len
+
+    new : tableau_of m new_l s new_places.order new_lines a b e g ≡ record (tableau_of m l s order lines a b e f) {
+      loaded = l ++ row ∷ [];
+      basic = drop (m + 1) order ++ (m + 1 + length l) ∷ [];
+      lines = lines ++ line ∷ [];
+      added = next_count f;
+    }
+    new = rw (l_is, lines_are, places_are, count, columns, rows) refl

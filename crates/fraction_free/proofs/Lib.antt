@@ -9,3 +9,4 @@ pub mod Empty
 pub mod Sums
 pub mod SlackLine
 pub mod AddRow
+pub mod DropRow

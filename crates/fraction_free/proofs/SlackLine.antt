@@ -87,7 +87,7 @@ variable_factors m l s order lines place t below =
           let len : length rows ≡ m + 1 = length-square m l order (omega (arith, t.order_len)) in
           let factors = set (replicate (m + 1) (pos 0)) place s in
           let comb = square_row_is_combination s factors rows place (omega arith) (length-set (replicate (m + 1) (pos 0)) place s ∙ length-replicate (m + 1) (pos 0) ∙ sym len)
-                (column_factor_here s (m + 1) place column) (λ other inside apart. column_factor_other s (m + 1) place other apart) in
+          (column_factor_here s (m + 1) place column) (λ other inside apart. column_factor_other s (m + 1) place other apart) in
           subst (λ (r : List ℤ). IsCombination s r (factors_at s lines (m + 1) place) rows) (square_at m l order place [] (omega (arith, t.order_len)) column)
           (subst (λ (f : List ℤ). IsCombination s (get_or rows place []) f rows) (sym (factors_at-column s lines (m + 1) place column)) comb)
       | inr row ↦
@@ -142,8 +142,8 @@ part_more m constant coefficients n j n_below below =
       | inl e ↦
           part_at m constant coefficients (n + 1) j below ∙ low_number m constant coefficients (n + 1) j (omega arith) ∙ ap (entry coefficients) e
           ∙ plus_one_time (entry (part m constant coefficients n) j) (entry coefficients n) (entry (unit (m + 1) n) j)
-            (part_at m constant coefficients n j below ∙ no_number m constant coefficients n j (omega arith) (omega arith))
-            (ap (entry (unit (m + 1) n)) e ∙ unit_one (m + 1) n (omega arith))
+          (part_at m constant coefficients n j below ∙ no_number m constant coefficients n j (omega arith) (omega arith))
+          (ap (entry (unit (m + 1) n)) e ∙ unit_one (m + 1) n (omega arith))
       | inr ne ↦
           part_at m constant coefficients (n + 1) j below ∙ same (cases_lt j n) ne ∙ sym (part_at m constant coefficients n j below)
           ∙ plus_no_time (entry (part m constant coefficients n) j) (entry coefficients n) (entry (unit (m + 1) n) j) (unit_zero (m + 1) n j below ne)
@@ -226,11 +226,11 @@ next_line m l s order lines coefficients line new k constant n next place len va
     let row : table_row m l (get_or order place 0) ≡ unit (m + 1) n = ap (table_row m l) variable ∙ table_row-increment m l (n + 1) (omega arith) (omega arith) ∙ ap (unit (m + 1)) back in
     subst (λ i. IsCombination s (part m constant coefficients i) new rows) (sym next_is)
     (add_combination s k (part m constant coefficients n) (table_row m l (get_or order place 0)) (part m constant coefficients (n + 1)) line (factors_at s lines (m + 1) place) new rows
-      comb (variable_factors m l s order lines place t place_in)
-      (λ c inside. part_more m constant coefficients n c below (omega arith)
-        ∙ ap (λ (i : ℤ). entry (part m constant coefficients n) c +ℤ i *ℤ entry (unit (m + 1) n) c) (sym k_is)
-        ∙ ap (λ (r : List ℤ). entry (part m constant coefficients n) c +ℤ k *ℤ entry r c) (sym row))
-      (subst (λ width. IsAdded k line (factors_at s lines width place) new) len added))
+    comb (variable_factors m l s order lines place t place_in)
+    (λ c inside. part_more m constant coefficients n c below (omega arith)
+    ∙ ap (λ (i : ℤ). entry (part m constant coefficients n) c +ℤ i *ℤ entry (unit (m + 1) n) c) (sym k_is)
+    ∙ ap (λ (r : List ℤ). entry (part m constant coefficients n) c +ℤ k *ℤ entry r c) (sym row))
+    (subst (λ width. IsAdded k line (factors_at s lines width place) new) len added))
 
 pub last_line : (m : ℕ) (l : List LoadedRow) (s t : ℤ) (order : List ℕ) (lines : List (List ℤ)) (coefficients line : List ℤ) (least u : ℤ) (n : ℕ)
     → t ≡ s → u ≡ least → n ≡ m → length coefficients ≡ m

@@ -83,3 +83,7 @@ pub record IsExchangedAt (scale : ℤ) (column : ℕ) (pivot old new : List ℤ)
   pub divided : number_at new place *ℤ scale
       ≡ with_sign (number_at pivot column) (number_at pivot column *ℤ number_at old place -ℤ number_at old column *ℤ number_at pivot place)
   pub others : (other : ℕ) → other ≢ place → number_at new other ≡ number_at old other
+
+-- pivots change scale, variables and lines only
+abbrev pub IsPivotedAny : Tableau → Tableau → Type 0
+IsPivotedAny old new = new ≡ record old { scale = new.scale; nonbasic = new.nonbasic; basic = new.basic; lines = new.lines }

@@ -48,7 +48,7 @@ impl Model for Dictionary {
 
 impl Dictionary {
     ghost use Rattle.fraction_free.specs.Tableau.{Tableau, IsDictionary, Satisfies, line_of, loaded_at};
-    ghost use Rattle.fraction_free.specs.Changes.{empty_tableau, next_count, number_at, AddsRow, IsPivoted, DropsLast};
+    ghost use Rattle.fraction_free.specs.Changes.{empty_tableau, next_count, number_at, AddsRow, IsPivoted, IsPivotedAny, DropsLast};
 
     /// A dictionary with no rows, and with room for so many columns and rows.
     pub fn reserve(alloc: Global, cols: u8, rows: u32) -> Result<Dictionary, NoMemory>
@@ -142,14 +142,23 @@ impl Dictionary {
         ensures dropped { DropsLast self.old self.new }
         ensures dictionary { IsDictionary self.new }
     {
-        let columns = usize::from(self.columns);
-        let last = columns + self.loaded.len();
+        let last = usize::from(self.columns) + self.loaded.len();
+        self.make_basic(last);
+        self.drop_basic(last);
+    }
+
+    /// Sees that the last slack is basic, by a pivot on the first row with an entry that is not 0.
+    fn make_basic(&mut self, last: usize)
+        requires some { 0 < length self.old.loaded }
+        requires last { last ≡ self.old.columns + length self.old.loaded }
+        ensures basic { Contains self.new.basic last }
+        ensures pivoted { IsPivotedAny self.old self.new }
+    {
         let column = self.places.place(last);
-        if column < columns {
+        if column < usize::from(self.columns) {
             let row = first_row_with(self.lines.as_slice(), column);
             self.pivot(row as u32 + 1, column as u8 + 1);
         }
-        self.drop_basic(last);
     }
 
     /// The last added row goes, whose slack is basic.

@@ -1,5 +1,6 @@
 //! The line of a new row in the terms of the present basic variables.
 ghost use Rattle.std.specs.Prelude.{◌≡◌, ◌⊎◌, ℕ, ◌+◌, ◌<◌, ◌≤◌, ◌^◌, List, length, slice_index, slice_index_or, [], ℤ, pos, unsigned_abs};
+ghost use Rattle.criteria_model.specs.Lists.{IsRow};
 ghost use Rattle.minors.specs.Combination.{IsCombination};
 ghost use Rattle.fraction_free.specs.declared.loaded.LoadedRow.{LoadedRow};
 ghost use Rattle.fraction_free.specs.Changes.{number_at};
@@ -21,8 +22,10 @@ pub fn slack_line(
     least: i8,
 ) -> Line
     requires can { CanCombine columns scale places.now.order lines.now }
-    requires row { IsLoadable columns (record { coefficients = coefficients.now; least = least }) }
-    ensures { (loaded : List LoadedRow) → IsMinorTableau columns loaded scale places.now.order lines.now
+    requires len { length coefficients.now ≡ columns }
+    requires least { (least ≡ pos 0) ⊎ (least ≡ pos 1) }
+    ensures row { IsLoadable columns (record { coefficients = coefficients.now; least = least }) }
+    ensures line { (loaded : List LoadedRow) → IsMinorTableau columns loaded scale places.now.order lines.now
         → IsCombination scale (row_of (record { coefficients = coefficients.now; least = least })) result (square_of columns loaded places.now.order) }
 {
     let width = usize::from(columns) + 1;
@@ -62,6 +65,7 @@ fn constant_of(coefficients: &Row, least: i8) -> i128
     requires least { unsigned_abs least ≤ 1 }
     ensures value { result ≡ slack_constant (record { coefficients = coefficients.now; least = least }) }
     ensures size { unsigned_abs result ≤ 25 }
+    ensures range { IsRow coefficients.now }
 {
     let mut sum = -i128::from(least);
     for coefficient in coefficients.as_slice() {

@@ -24,9 +24,9 @@ loop-variable-init c =
       len = added.len ∙ ap length c.zeros-line.ensures ∙ length-replicate (c.from-width.result + 1) (pos 0) ∙ ap (λ n. n + 1) c.from-width.ensures;
       sizes = λ at.
           let most = added_size (to_z w128 (of_z w128 c.constant_of-constant.result)) c.zeros-line.result _ c.add_variable.new.line at 25 0 added
-                (subst (λ (z : ℤ). unsigned_abs z ≤ 25) (sym k_is) c.constant_of-constant.ensures.size)
-                (zero_size (c.from-width.result + 1) at c.zeros-line.result c.zeros-line.ensures)
-                (factor_size scale c.args.lines.now _ _ at (subst (λ (z : ℤ). unsigned_abs z < 2 ^ 89) (sym scale_is) c.requires.can.scale_size) c.requires.can.sizes) in
+          (subst (λ (z : ℤ). unsigned_abs z ≤ 25) (sym k_is) c.constant_of-constant.ensures.size)
+          (zero_size (c.from-width.result + 1) at c.zeros-line.result c.zeros-line.ensures)
+          (factor_size scale c.args.lines.now _ _ at (subst (λ (z : ℤ). unsigned_abs z < 2 ^ 89) (sym scale_is) c.requires.can.scale_size) c.requires.can.sizes) in
           omega arith;
       combination = λ loaded t.
           first_line c.args.columns loaded scale c.args.places.now.order c.args.lines.now c.args.coefficients.now c.zeros-line.result c.add_variable.new.line
@@ -48,8 +48,8 @@ loop-variable-preserved c =
       len = added.len ∙ v.len;
       sizes = λ at.
           let most = added_size (to_z w128 (of_z w128 c.from-coefficient.result)) c.loop-variable.line _ c.add_variable-in-loop-variable.new.line at 1 ((25 + c.loop-variable.variable) * 2 ^ 89) added
-                (subst (λ (z : ℤ). unsigned_abs z ≤ 1) (sym k_is) c.item.ensures.range) (v.sizes at)
-                (factor_size scale c.args.lines.now _ _ at (subst (λ (z : ℤ). unsigned_abs z < 2 ^ 89) (sym scale_is) c.requires.can.scale_size) c.requires.can.sizes) in
+          (subst (λ (z : ℤ). unsigned_abs z ≤ 1) (sym k_is) c.item.ensures.range) (v.sizes at)
+          (factor_size scale c.args.lines.now _ _ at (subst (λ (z : ℤ). unsigned_abs z < 2 ^ 89) (sym scale_is) c.requires.can.scale_size) c.requires.can.sizes) in
           omega arith;
       combination = λ loaded t.
           next_line c.args.columns loaded scale c.args.places.now.order c.args.lines.now c.args.coefficients.now c.loop-variable.line c.add_variable-in-loop-variable.new.line
@@ -58,10 +58,13 @@ loop-variable-preserved c =
           (k_is ∙ sym (get_or_from_slice_get c.args.coefficients.now (c.loop-variable.variable - 1) c.item.result (pos 0) c.item.ensures.value)) back added t (v.combination loaded t);
     }
 
-pub returns : goal.returns
-returns c =
+pub returns-clause-line : goal.returns-clause-line
+returns-clause-line c =
     let v = c.loop-variable.invariant in
     λ loaded k.
-      last_line c.args.columns loaded c.args.scale (to_z w128 (of_z w128 c.args.scale)) c.args.places.now.order c.args.lines.now c.args.coefficients.now c.loop-variable.line c.args.least (to_z w8 (of_z w8 c.args.least))
-      (c.loop-variable.variable - 1) (read_back w128 c.args.scale (omega (arith, c.requires.can.scale_size))) (to_z-of_z w8 c.args.least c.ranges.least)
-      (omega (arith, c.from-width.ensures)) c.requires.row.len (v.combination loaded) k
+    last_line c.args.columns loaded c.args.scale (to_z w128 (of_z w128 c.args.scale)) c.args.places.now.order c.args.lines.now c.args.coefficients.now c.loop-variable.line c.args.least (to_z w8 (of_z w8 c.args.least))
+    (c.loop-variable.variable - 1) (read_back w128 c.args.scale (omega (arith, c.requires.can.scale_size))) (to_z-of_z w8 c.args.least c.ranges.least)
+    (omega (arith, c.from-width.ensures)) c.requires.len (v.combination loaded) k
+
+pub returns-clause-row : goal.returns-clause-row
+returns-clause-row c = record { coefficients = c.constant_of-constant.ensures.range; len = c.requires.len; least = c.requires.least }
