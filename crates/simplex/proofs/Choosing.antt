@@ -15,12 +15,14 @@ pub leaving_done : (d : Tableau) (found : Option ℕ) (least at : ℕ) → IsDic
     → MatchOption found (IsFeasible d) (λ row. (1 ≤ row) × IsLeavingRow d (row - 1))
 leaving_done d None least at is end below none =
     λ row lt. nonneg_if (constant_of d row) (λ neg.
-      let high = (variables_of d is).basic_high row lt in
-      let le : least ≤ slice_index d.basic row = below row (omega arith) neg in
-      omega (arith, is.columns_most, is.columns_room, is.rows_room, is.rows_most, none, high, le))
-leaving_done d (Some row) least at is end below found =
-    (found.0, record {
-      within = omega (arith, found.0, found.1);
-      negative = found.2;
-      least = λ other lt neg. let le : least ≤ slice_index d.basic other = below other (omega arith) neg in omega (arith, found.3)
-    })
+    let high = (variables_of d is).basic_high row lt in
+    let le : least ≤ slice_index d.basic row = below row (omega arith) neg in
+    omega (arith, is.columns_most, is.columns_room, is.rows_room, is.rows_most, none, high, le))
+leaving_done d (Some row) least at is end below found = (
+  found.0,
+  record {
+    within = omega (arith, found.0, found.1);
+    negative = found.2;
+    least = λ other lt neg. let le : least ≤ slice_index d.basic other = below other (omega arith) neg in omega (arith, found.3);
+  },
+)

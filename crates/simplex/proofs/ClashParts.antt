@@ -46,8 +46,8 @@ weighted_nonneg : (f : ℕ → ℤ) (rows : List RowWeight) → All IsRowWeight 
 weighted_nonneg f [] are h = omega (arith, ints)
 weighted_nonneg f (x ∷ rows) are h =
     add_nonneg (x.weight *ℤ f x.row) (weighted f rows)
-      (mul_nonneg x.weight (f x.row) (nonneg_of_pos x.weight (are 0 x (omega arith)).positive) (h 0 x (omega arith)))
-      (weighted_nonneg f rows (λ k y lt. are (suc k) y (omega arith)) (λ k y lt. h (suc k) y (omega arith)))
+    (mul_nonneg x.weight (f x.row) (nonneg_of_pos x.weight (are 0 x (omega arith)).positive) (h 0 x (omega arith)))
+    (weighted_nonneg f rows (λ k y lt. are (suc k) y (omega arith)) (λ k y lt. h (suc k) y (omega arith)))
 
 mul_one : (a : ℤ) → a *ℤ pos 1 ≡ a
 mul_one a = *ℤ_comm a (pos 1) ∙ one_mul a
@@ -72,25 +72,28 @@ own_nonneg d row increments rows has k lt =
 pub unmet : (d : Tableau) (row : ℕ) (increments : List ℤ) (rows : List RowWeight) → HasWeights d row increments rows → (vector : List ℤ) → MeetsRows d.columns d.loaded vector → ⊥
 unmet d row increments rows has vector meets =
     impossible
-      (sum_below (λ k. get_or increments k (pos 0) *ℤ (get_or vector k (pos 0) -ℤ pos 1)) d.columns)
-      (weighted (λ r. dot (loaded_at d.loaded (r - 1)).coefficients vector -ℤ (loaded_at d.loaded (r - 1)).least *ℤ pos 1) rows)
-      (constant_of d row)
-      (sum_nonneg (λ k. get_or increments k (pos 0) *ℤ (get_or vector k (pos 0) -ℤ pos 1)) d.columns
-        (λ k lt. mul_nonneg (get_or increments k (pos 0)) (get_or vector k (pos 0) -ℤ pos 1) (own_nonneg d row increments rows has k lt)
-          (less (get_or vector k (pos 0)) (meets.positive k (pos 0) (omega (arith, meets.len))))))
-      (weighted_nonneg (λ r. dot (loaded_at d.loaded (r - 1)).coefficients vector -ℤ (loaded_at d.loaded (r - 1)).least *ℤ pos 1) rows has.weights.each
-        (λ k x lt. slack_nonneg ((slice_index_or rows k x).row) (has.weights.each k x lt).numbered (has.loaded_rows k x lt)))
-      has.negative
-      (weights_at_vector d has.dictionary row increments rows vector (pos 1) has.within meets.len has.own has.slacks has.weights.each ∙ mul_one (constant_of d row))
+    (sum_below (λ k. get_or increments k (pos 0) *ℤ (get_or vector k (pos 0) -ℤ pos 1)) d.columns)
+    (weighted (λ r. dot (loaded_at d.loaded (r - 1)).coefficients vector -ℤ (loaded_at d.loaded (r - 1)).least *ℤ pos 1) rows)
+    (constant_of d row)
+    (sum_nonneg (λ k. get_or increments k (pos 0) *ℤ (get_or vector k (pos 0) -ℤ pos 1)) d.columns
+    (λ k lt. mul_nonneg (get_or increments k (pos 0)) (get_or vector k (pos 0) -ℤ pos 1) (own_nonneg d row increments rows has k lt)
+    (less (get_or vector k (pos 0)) (meets.positive k (pos 0) (omega (arith, meets.len))))))
+    (weighted_nonneg (λ r. dot (loaded_at d.loaded (r - 1)).coefficients vector -ℤ (loaded_at d.loaded (r - 1)).least *ℤ pos 1) rows has.weights.each
+    (λ k x lt. slack_nonneg ((slice_index_or rows k x).row) (has.weights.each k x lt).numbered (has.loaded_rows k x lt)))
+    has.negative
+    (weights_at_vector d has.dictionary row increments rows vector (pos 1) has.within meets.len has.own has.slacks has.weights.each ∙ mul_one (constant_of d row))
   where
     less : (a : ℤ) → pos 1 ≤ℤ a → pos 0 ≤ℤ (a -ℤ pos 1)
     less a h = omega (arith, ints)
+
     difference : (a b : ℤ) → b ≤ℤ a → pos 0 ≤ℤ (a -ℤ b)
     difference a b h = omega (arith, ints)
+
     slack_nonneg : (r : ℕ) → 1 ≤ r → r ≤ length d.loaded → pos 0 ≤ℤ (dot (loaded_at d.loaded (r - 1)).coefficients vector -ℤ (loaded_at d.loaded (r - 1)).least *ℤ pos 1)
     slack_nonneg r low high =
-      difference (dot (loaded_at d.loaded (r - 1)).coefficients vector) ((loaded_at d.loaded (r - 1)).least *ℤ pos 1)
+        difference (dot (loaded_at d.loaded (r - 1)).coefficients vector) ((loaded_at d.loaded (r - 1)).least *ℤ pos 1)
         (subst (λ (n : ℤ). n ≤ℤ dot (loaded_at d.loaded (r - 1)).coefficients vector) (sym (mul_one (loaded_at d.loaded (r - 1)).least)) (meets.each (r - 1) (omega arith)))
+
     impossible : (a b c : ℤ) → pos 0 ≤ℤ a → pos 0 ≤ℤ b → c <ℤ pos 0 → a +ℤ b ≡ c → ⊥
     impossible a b c h k l e = omega (arith, ints)
 
@@ -120,30 +123,31 @@ dot_unit columns j xs len lt =
     dot-sum xs (unit_vector columns j) (len ∙ sym (unit_len columns j))
     ∙ ap (sum_below (λ i. get_or xs i (pos 0) *ℤ get_or (unit_vector columns j) i (pos 0))) len
     ∙ sum-ext (λ i. get_or xs i (pos 0) *ℤ get_or (unit_vector columns j) i (pos 0)) (at_place j (get_or xs j (pos 0))) columns
-        (λ k l. ap (λ (n : ℤ). get_or xs k (pos 0) *ℤ n) (unit_at columns j k l)
-          ∙ times_plain_unit (k == j) (get_or xs k (pos 0)) (get_or xs j (pos 0)) (λ e. ap (λ (n : ℕ). get_or xs n (pos 0)) (eqb-true k j e)))
+    (λ k l. ap (λ (n : ℤ). get_or xs k (pos 0) *ℤ n) (unit_at columns j k l)
+    ∙ times_plain_unit (k == j) (get_or xs k (pos 0)) (get_or xs j (pos 0)) (λ e. ap (λ (n : ℕ). get_or xs n (pos 0)) (eqb-true k j e)))
     ∙ sum-at_place j (get_or xs j (pos 0)) columns lt
 
 pub column_sum : (d : Tableau) (row : ℕ) (increments : List ℤ) (rows : List RowWeight) → HasWeights d row increments rows → (column : ℕ) → column < d.columns
     → get_or increments column (pos 0) +ℤ weighted (coefficient d.loaded column) rows ≡ pos 0
 column_sum d row increments rows has column lt =
     ap (λ (s : ℤ). s +ℤ weighted (coefficient d.loaded column) rows)
-      (sym (sum-ext (λ k. get_or increments k (pos 0) *ℤ (get_or (unit_vector d.columns column) k (pos 0) -ℤ pos 0)) (at_place column (get_or increments column (pos 0))) d.columns
-          (λ k l. ap (λ (n : ℤ). get_or increments k (pos 0) *ℤ (n -ℤ pos 0)) (unit_at d.columns column k l)
-            ∙ times_unit (k == column) (get_or increments k (pos 0)) (get_or increments column (pos 0)) (λ e. ap (λ (n : ℕ). get_or increments n (pos 0)) (eqb-true k column e)))
-        ∙ sum-at_place column (get_or increments column (pos 0)) d.columns lt))
+    (sym (sum-ext (λ k. get_or increments k (pos 0) *ℤ (get_or (unit_vector d.columns column) k (pos 0) -ℤ pos 0)) (at_place column (get_or increments column (pos 0))) d.columns
+    (λ k l. ap (λ (n : ℤ). get_or increments k (pos 0) *ℤ (n -ℤ pos 0)) (unit_at d.columns column k l)
+    ∙ times_unit (k == column) (get_or increments k (pos 0)) (get_or increments column (pos 0)) (λ e. ap (λ (n : ℕ). get_or increments n (pos 0)) (eqb-true k column e)))
+    ∙ sum-at_place column (get_or increments column (pos 0)) d.columns lt))
     ∙ ap (λ (s : ℤ). sum_below (λ k. get_or increments k (pos 0) *ℤ (get_or (unit_vector d.columns column) k (pos 0) -ℤ pos 0)) d.columns +ℤ s)
-        (sym (weighted_same (λ r. dot (loaded_at d.loaded (r - 1)).coefficients (unit_vector d.columns column) -ℤ (loaded_at d.loaded (r - 1)).least *ℤ pos 0) (coefficient d.loaded column) rows
-          (λ k x l. at_row ((slice_index_or rows k x).row) (has.weights.each k x l).numbered (has.loaded_rows k x l))))
+    (sym (weighted_same (λ r. dot (loaded_at d.loaded (r - 1)).coefficients (unit_vector d.columns column) -ℤ (loaded_at d.loaded (r - 1)).least *ℤ pos 0) (coefficient d.loaded column) rows
+    (λ k x l. at_row ((slice_index_or rows k x).row) (has.weights.each k x l).numbered (has.loaded_rows k x l))))
     ∙ weights_at_vector d has.dictionary row increments rows (unit_vector d.columns column) (pos 0) has.within (unit_len d.columns column) has.own has.slacks has.weights.each
     ∙ mul_zero (constant_of d row)
   where
     minus_zero : (a b : ℤ) → b ≡ pos 0 → a -ℤ b ≡ a
     minus_zero a b e = omega (arith, sums)
+
     at_row : (r : ℕ) → 1 ≤ r → r ≤ length d.loaded → dot (loaded_at d.loaded (r - 1)).coefficients (unit_vector d.columns column) -ℤ (loaded_at d.loaded (r - 1)).least *ℤ pos 0 ≡ coefficient d.loaded column r
     at_row r low high =
-      minus_zero (dot (loaded_at d.loaded (r - 1)).coefficients (unit_vector d.columns column)) ((loaded_at d.loaded (r - 1)).least *ℤ pos 0) (mul_zero (loaded_at d.loaded (r - 1)).least)
-      ∙ dot_unit d.columns column (loaded_at d.loaded (r - 1)).coefficients (has.dictionary.rows (r - 1) (omega arith)).len lt
+        minus_zero (dot (loaded_at d.loaded (r - 1)).coefficients (unit_vector d.columns column)) ((loaded_at d.loaded (r - 1)).least *ℤ pos 0) (mul_zero (loaded_at d.loaded (r - 1)).least)
+        ∙ dot_unit d.columns column (loaded_at d.loaded (r - 1)).coefficients (has.dictionary.rows (r - 1) (omega arith)).len lt
 
 -- ---- a strict weight
 
@@ -162,8 +166,8 @@ unfolding sum_below
 any_increment increments zero le h = absurd (omega (arith, ints))
 any_increment increments (suc n) le h =
     by_lt_z (pos 0) (get_or increments n (pos 0))
-      (λ here. (n, get_or increments n (pos 0), omega arith, any_default increments n (get_or increments n (pos 0)) (pos 0) (omega arith), here))
-      (λ none. any_increment increments n (omega arith) (rest (sum_below (λ k. get_or increments k (pos 0)) n) (get_or increments n (pos 0)) h none))
+    (λ here. (n, get_or increments n (pos 0), omega arith, any_default increments n (get_or increments n (pos 0)) (pos 0) (omega arith), here))
+    (λ none. any_increment increments n (omega arith) (rest (sum_below (λ k. get_or increments k (pos 0)) n) (get_or increments n (pos 0)) h none))
   where
     rest : (a b : ℤ) → pos 0 <ℤ (a +ℤ b) → b ≤ℤ pos 0 → pos 0 <ℤ a
     rest a b h k = omega (arith, ints)
@@ -179,44 +183,48 @@ any_row loaded (x ∷ rows) leasts h =
       where
         plus : (a s : ℤ) → a ≡ pos 0 → pos 0 <ℤ (a +ℤ s) → pos 0 <ℤ s
         plus a s e h = omega (arith, ints)
+
     from : (pos 0 <ℤ weighted (λ r. (loaded_at loaded (r - 1)).least) rows → Any (IsStrictRow loaded) rows)
         → ((loaded_at loaded (x.row - 1)).least ≡ pos 0) ⊎ ((loaded_at loaded (x.row - 1)).least ≡ pos 1) → Any (IsStrictRow loaded) (x ∷ rows)
     from others (inl e) =
-      let f : Any (IsStrictRow loaded) rows = others (rest x.weight (loaded_at loaded (x.row - 1)).least (weighted (λ r. (loaded_at loaded (r - 1)).least) rows) e h) in
-      (suc f.0, f.1, (let l = f.2 in omega arith), f.3, f.4)
+        let f : Any (IsStrictRow loaded) rows = others (rest x.weight (loaded_at loaded (x.row - 1)).least (weighted (λ r. (loaded_at loaded (r - 1)).least) rows) e h) in
+        (suc f.0, f.1, (let l = f.2 in omega arith), f.3, f.4)
     from others (inr e) = (0, x, omega arith, refl, e)
 
 pub has_strict : (d : Tableau) (row : ℕ) (increments : List ℤ) (rows : List RowWeight) → HasWeights d row increments rows
     → Any (λ weight. pos 0 <ℤ weight) increments ⊎ Any (IsStrictRow d.loaded) rows
 has_strict d row increments rows has =
     by_lt_z (pos 0) (sum_below (λ k. get_or increments k (pos 0)) d.columns)
-      (λ some. inl (any_increment increments d.columns (omega (arith, has.len)) some))
-      (λ none. inr (any_row d.loaded rows
-        (λ k x lt. (has.dictionary.rows ((slice_index_or rows k x).row - 1) (let n = (has.weights.each k x lt).numbered in let h = has.loaded_rows k x lt in omega arith)).least)
-        (rest (sum_below (λ k. get_or increments k (pos 0)) d.columns) (weighted (λ r. (loaded_at d.loaded (r - 1)).least) rows) (constant_of d row) none has.negative total)))
+    (λ some. inl (any_increment increments d.columns (omega (arith, has.len)) some))
+    (λ none. inr (any_row d.loaded rows
+    (λ k x lt. (has.dictionary.rows ((slice_index_or rows k x).row - 1) (let n = (has.weights.each k x lt).numbered in let h = has.loaded_rows k x lt in omega arith)).least)
+    (rest (sum_below (λ k. get_or increments k (pos 0)) d.columns) (weighted (λ r. (loaded_at d.loaded (r - 1)).least) rows) (constant_of d row) none has.negative total)))
   where
     rest : (a b c : ℤ) → a ≤ℤ pos 0 → c <ℤ pos 0 → neg_ℤ a +ℤ neg_ℤ b ≡ c → pos 0 <ℤ b
     rest a b c h k e = omega (arith, ints)
+
     negated : (a l : ℤ) → a ≡ pos 0 → a -ℤ l *ℤ pos 1 ≡ neg_ℤ l
     negated a l e = step a (l *ℤ pos 1) l e (mul_one l)
       where
         step : (a m l : ℤ) → a ≡ pos 0 → m ≡ l → a -ℤ m ≡ neg_ℤ l
         step a m l e f = omega (arith, sums)
+
     minus_one : (a : ℤ) → a *ℤ (pos 0 -ℤ pos 1) ≡ neg_ℤ a
     minus_one a = mul-neg a (pos 1) ∙ ap neg_ℤ (mul_one a)
+
     total : neg_ℤ (sum_below (λ k. get_or increments k (pos 0)) d.columns) +ℤ neg_ℤ (weighted (λ r. (loaded_at d.loaded (r - 1)).least) rows) ≡ constant_of d row
     total =
-      ap (λ (s : ℤ). s +ℤ neg_ℤ (weighted (λ r. (loaded_at d.loaded (r - 1)).least) rows))
+        ap (λ (s : ℤ). s +ℤ neg_ℤ (weighted (λ r. (loaded_at d.loaded (r - 1)).least) rows))
         (sym (sum-ext (λ k. get_or increments k (pos 0) *ℤ (get_or (replicate d.columns (pos 0)) k (pos 0) -ℤ pos 1)) (λ k. neg_ℤ (get_or increments k (pos 0))) d.columns
-            (λ k l. ap (λ (n : ℤ). get_or increments k (pos 0) *ℤ (n -ℤ pos 1)) (get_or-replicate d.columns k (pos 0) (pos 0) l) ∙ minus_one (get_or increments k (pos 0)))
-          ∙ sum_neg (λ k. get_or increments k (pos 0)) d.columns))
-      ∙ ap (λ (s : ℤ). sum_below (λ k. get_or increments k (pos 0) *ℤ (get_or (replicate d.columns (pos 0)) k (pos 0) -ℤ pos 1)) d.columns +ℤ s)
-          (sym (weighted_same (λ r. dot (loaded_at d.loaded (r - 1)).coefficients (replicate d.columns (pos 0)) -ℤ (loaded_at d.loaded (r - 1)).least *ℤ pos 1) (λ r. neg_ℤ (loaded_at d.loaded (r - 1)).least) rows
-              (λ k x l. negated (dot (loaded_at d.loaded ((slice_index_or rows k x).row - 1)).coefficients (replicate d.columns (pos 0))) (loaded_at d.loaded ((slice_index_or rows k x).row - 1)).least
-                (dot_zeros d.columns (loaded_at d.loaded ((slice_index_or rows k x).row - 1)).coefficients))
-            ∙ weighted_neg (λ r. (loaded_at d.loaded (r - 1)).least) rows))
-      ∙ weights_at_vector d has.dictionary row increments rows (replicate d.columns (pos 0)) (pos 1) has.within (length-replicate d.columns (pos 0)) has.own has.slacks has.weights.each
-      ∙ mul_one (constant_of d row)
+        (λ k l. ap (λ (n : ℤ). get_or increments k (pos 0) *ℤ (n -ℤ pos 1)) (get_or-replicate d.columns k (pos 0) (pos 0) l) ∙ minus_one (get_or increments k (pos 0)))
+        ∙ sum_neg (λ k. get_or increments k (pos 0)) d.columns))
+        ∙ ap (λ (s : ℤ). sum_below (λ k. get_or increments k (pos 0) *ℤ (get_or (replicate d.columns (pos 0)) k (pos 0) -ℤ pos 1)) d.columns +ℤ s)
+        (sym (weighted_same (λ r. dot (loaded_at d.loaded (r - 1)).coefficients (replicate d.columns (pos 0)) -ℤ (loaded_at d.loaded (r - 1)).least *ℤ pos 1) (λ r. neg_ℤ (loaded_at d.loaded (r - 1)).least) rows
+        (λ k x l. negated (dot (loaded_at d.loaded ((slice_index_or rows k x).row - 1)).coefficients (replicate d.columns (pos 0))) (loaded_at d.loaded ((slice_index_or rows k x).row - 1)).least
+        (dot_zeros d.columns (loaded_at d.loaded ((slice_index_or rows k x).row - 1)).coefficients))
+        ∙ weighted_neg (λ r. (loaded_at d.loaded (r - 1)).least) rows))
+        ∙ weights_at_vector d has.dictionary row increments rows (replicate d.columns (pos 0)) (pos 1) has.within (length-replicate d.columns (pos 0)) has.own has.slacks has.weights.each
+        ∙ mul_one (constant_of d row)
 
 pub weights_are_clash : (d : Tableau) (row : ℕ) (increments : List ℤ) (rows : List RowWeight) → HasWeights d row increments rows → IsClash d.columns d.loaded (record { increments = increments; rows = rows })
 weights_are_clash d row increments rows has = record {
@@ -225,5 +233,5 @@ weights_are_clash d row increments rows has = record {
   weights = has.weights;
   loaded_rows = has.loaded_rows;
   sums = column_sum d row increments rows has;
-  strict = has_strict d row increments rows has
+  strict = has_strict d row increments rows has;
 }

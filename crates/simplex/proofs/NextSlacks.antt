@@ -20,7 +20,7 @@ pub next_found : (d : Tableau) (row above n least v : ℕ) (w : ℤ) (found : Op
     → NextSoFar d row above n least found → NextSoFar d row above (n + 1) v (Some (v, w))
 next_found d row above n least v w found ev ew gt positive lt so = record {
   below = λ p l a b. here p l a b (cases_Bool (p == n));
-  found_is = (n, omega arith, omega (arith, ev), subst (λ (x : ℤ). pos 0 <ℤ x) ew positive, ev, ew, ev)
+  found_is = (n, omega arith, omega (arith, ev), subst (λ (x : ℤ). pos 0 <ℤ x) ew positive, ev, ew, ev);
 }
   where
     here : (p : ℕ) → p < n + 1 → above < variable_at d row p → pos 0 <ℤ weight_at d row p → ((p == n) ≡ true) ⊎ ((p == n) ≡ false) → v ≤ variable_at d row p
@@ -37,13 +37,13 @@ pub next_passed : (d : Tableau) (row above n least : ℕ) (found : Option (ℕ �
     → NextSoFar d row above n least found → NextSoFar d row above (n + 1) least found
 next_passed d row above n least found le so = record {
   below = λ p l a b. here p l a b (cases_Bool (p == n));
-  found_is = widened d row above n least found so.found_is
+  found_is = widened d row above n least found so.found_is;
 }
   where
     here : (p : ℕ) → p < n + 1 → above < variable_at d row p → pos 0 <ℤ weight_at d row p → ((p == n) ≡ true) ⊎ ((p == n) ≡ false) → least ≤ variable_at d row p
     here p l a b (inl e) =
-      let same : p ≡ n = eqb-true p n e in
-      subst (λ (m : ℕ). least ≤ variable_at d row m) (sym same) (le (subst (λ (m : ℕ). above < variable_at d row m) same a) (subst (λ (m : ℕ). pos 0 <ℤ weight_at d row m) same b))
+        let same : p ≡ n = eqb-true p n e in
+        subst (λ (m : ℕ). least ≤ variable_at d row m) (sym same) (le (subst (λ (m : ℕ). above < variable_at d row m) same a) (subst (λ (m : ℕ). pos 0 <ℤ weight_at d row m) same b))
     here p l a b (inr e) = let ne : p ≢ n = eqb-false p n e in so.below p (omega arith) a b
 
 pub next_done : (d : Tableau) (row above n least : ℕ) (found : Option (ℕ × ℤ)) → IsDictionary d → row < length d.loaded → n ≡ d.columns + 1 → NextSoFar d row above n least found
@@ -54,10 +54,18 @@ next_done d row above n least found is lt e so = from found so.found_is
         → MatchOption found (least ≡ 4294967295) (λ f. (p : ℕ) × (p < n) × (above < variable_at d row p) × (pos 0 <ℤ weight_at d row p) × (f.0 ≡ variable_at d row p) × (f.1 ≡ weight_at d row p) × (least ≡ variable_at d row p))
         → MatchOption found (HasNoNextWeight d row above) (λ found. (place : ℕ) × IsNextWeight d row above place × (found.0 ≡ variable_at d row place) × (found.1 ≡ weight_at d row place))
     from None none = λ p l a b.
-      let le : least ≤ variable_at d row p = so.below p (omega arith) a b in
-      let high : variable_at d row p ≤ d.columns + length d.loaded = (variable_range d is row p lt (omega arith)).1 in
-      omega (arith, none, is.columns_most, is.rows_room, is.rows_most)
+        let le : least ≤ variable_at d row p = so.below p (omega arith) a b in
+        let high : variable_at d row p ≤ d.columns + length d.loaded = (variable_range d is row p lt (omega arith)).1 in
+        omega (arith, none, is.columns_most, is.rows_room, is.rows_most)
     from (Some f) h =
-      let within : h.0 ≤ d.columns = let l = h.1 in omega (arith, e) in
-      (h.0, record { within = within; later = h.2; positive = h.3;
-        least = λ other l a b. let le : least ≤ variable_at d row other = so.below other (omega (arith, e)) a b in omega (arith, h.6) }, h.4, h.5)
+        let within : h.0 ≤ d.columns = let l = h.1 in omega (arith, e) in (
+          h.0,
+          record {
+            within = within;
+            later = h.2;
+            positive = h.3;
+            least = λ other l a b. let le : least ≤ variable_at d row other = so.below other (omega (arith, e)) a b in omega (arith, h.6);
+          },
+          h.4,
+          h.5,
+        )

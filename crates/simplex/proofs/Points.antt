@@ -34,12 +34,12 @@ of_column d vector is at column lt = from ((variables_of d is).each (column + 1)
   where
     from : ((i : ℕ) × (i < length d.loaded) × (slice_index d.basic i ≡ column + 1)) ⊎ ((j : ℕ) × (j < d.columns) × (slice_index d.nonbasic j ≡ column + 1)) → OfColumn d column (get_or vector column (pos 0))
     from (inl f) =
-      let i : ℕ = f.0 in
-      let place : slice_index d.basic f.0 - 1 ≡ column = let e = f.2 in omega arith in
-      inl (f.0, f.1, f.2, ap (λ (n : ℕ). get_or vector n (pos 0)) (sym place) ∙ at.basic f.0 f.1 (let e = f.2 in omega arith))
+        let i : ℕ = f.0 in
+        let place : slice_index d.basic f.0 - 1 ≡ column = let e = f.2 in omega arith in
+        inl (f.0, f.1, f.2, ap (λ (n : ℕ). get_or vector n (pos 0)) (sym place) ∙ at.basic f.0 f.1 (let e = f.2 in omega arith))
     from (inr f) =
-      let none : (i : ℕ) → i < length d.loaded → slice_index d.basic i ≢ column + 1 = λ i li e. (variables_of d is).apart i f.0 li f.1 (e ∙ sym f.2) in
-      inr (none, at.nonbasic column lt none)
+        let none : (i : ℕ) → i < length d.loaded → slice_index d.basic i ≢ column + 1 = λ i li e. (variables_of d is).apart i f.0 li f.1 (e ∙ sym f.2) in
+        inr (none, at.nonbasic column lt none)
 
 pub scaled_positive : (d : Tableau) (vector : List ℤ) → IsDictionary d → IsFeasible d → IsScaledPoint d vector → All (λ x. pos 1 ≤ℤ x) vector
 scaled_positive d vector is feasible at =
@@ -47,6 +47,7 @@ scaled_positive d vector is feasible at =
   where
     add : (a s c : ℤ) → a ≡ s +ℤ c → pos 1 ≤ℤ s → pos 0 ≤ℤ c → pos 1 ≤ℤ a
     add a s c e h k = omega (arith, ints)
+
     from : (k : ℕ) → OfColumn d k (get_or vector k (pos 0)) → pos 1 ≤ℤ get_or vector k (pos 0)
     from k (inl f) = add (get_or vector k (pos 0)) d.scale (constant_of d f.0) f.3 is.positive (feasible f.0 f.1)
     from k (inr f) = subst (λ (n : ℤ). pos 1 ≤ℤ n) (sym f.1) is.positive
@@ -78,25 +79,28 @@ value_nonneg d is feasible v = from ((system_of d).is_basic v) refl
 vector_is : (d : Tableau) (vector : List ℤ) → IsDictionary d → IsScaledPoint d vector → vector_of d.columns (assignment d) ≡ vector
 vector_is d vector is at =
     ext_get_or (pos 0) (vector_of d.columns (assignment d)) vector
-      (len ∙ sym at.len)
-      (λ k lt. let l : k < d.columns = omega (arith, len) in
-        get_or-map-range_with_len (λ variable. assignment d variable +ℤ assignment d 0) 1 d.columns k (k + 1) (pos 0) l (omega arith)
-        ∙ ap (λ (n : ℤ). n +ℤ d.scale) (with_one-same d.scale (basic_solution (system_of d)) (k + 1) (omega arith))
-        ∙ from k (of_column d vector is at k l))
+    (len ∙ sym at.len)
+    (λ k lt. let l : k < d.columns = omega (arith, len) in
+    get_or-map-range_with_len (λ variable. assignment d variable +ℤ assignment d 0) 1 d.columns k (k + 1) (pos 0) l (omega arith)
+    ∙ ap (λ (n : ℤ). n +ℤ d.scale) (with_one-same d.scale (basic_solution (system_of d)) (k + 1) (omega arith))
+    ∙ from k (of_column d vector is at k l))
   where
     len : length (vector_of d.columns (assignment d)) ≡ d.columns
     len = length-map-range_with_len (λ variable. assignment d variable +ℤ assignment d 0) 1 d.columns
+
     swap : (a b : ℤ) → a +ℤ b ≡ b +ℤ a
     swap a b = omega (arith, sums)
+
     zero_plus : (a : ℤ) → pos 0 +ℤ a ≡ a
     zero_plus a = omega (arith, sums)
+
     from : (k : ℕ) → OfColumn d k (get_or vector k (pos 0)) → basic_solution (system_of d) (k + 1) +ℤ d.scale ≡ get_or vector k (pos 0)
     from k (inl f) =
-      ap (λ (n : ℕ). basic_solution (system_of d) n +ℤ d.scale) (sym f.2)
-      ∙ ap (λ (n : ℤ). n +ℤ d.scale) (basic_value d is f.0 f.1)
-      ∙ swap (constant_of d f.0) d.scale ∙ sym f.3
+        ap (λ (n : ℕ). basic_solution (system_of d) n +ℤ d.scale) (sym f.2)
+        ∙ ap (λ (n : ℤ). n +ℤ d.scale) (basic_value d is f.0 f.1)
+        ∙ swap (constant_of d f.0) d.scale ∙ sym f.3
     from k (inr f) =
-      ap (λ (n : ℤ). n +ℤ d.scale) (nonbasic_value d (k + 1) f.0) ∙ zero_plus d.scale ∙ sym f.1
+        ap (λ (n : ℤ). n +ℤ d.scale) (nonbasic_value d (k + 1) f.0) ∙ zero_plus d.scale ∙ sym f.1
 
 dot_times : (k : ℤ) (xs ys : List ℤ) → dot xs (times k ys) ≡ k *ℤ dot xs ys
 dot_times k [] ys = sym (mul_zero k)
@@ -137,14 +141,14 @@ point_meets d values result factor is feasible at pf multiple positive = record 
   len = sym (length-map result (λ x. factor *ℤ x)) ∙ sym (ap length multiple) ∙ at.len;
   positive = positive;
   each = λ row lt.
-    let vs : HasVariables d = variables_of d is in
-    let slacks : HasSlacks d.columns d.loaded (assignment d) = (is.solutions (assignment d)).0 (assignment_satisfies d is) in
-    let slack : assignment d (d.columns + 1 + row) ≡ slack_of d.columns (loaded_at d.loaded row) (assignment d) = slacks.each row lt in
-    meets_step (loaded_at d.loaded row).least d.scale factor (dot (loaded_at d.loaded row).coefficients result) (assignment d (d.columns + 1 + row)) (dot (loaded_at d.loaded row).coefficients (vector_of d.columns (assignment d)))
+      let vs : HasVariables d = variables_of d is in
+      let slacks : HasSlacks d.columns d.loaded (assignment d) = (is.solutions (assignment d)).0 (assignment_satisfies d is) in
+      let slack : assignment d (d.columns + 1 + row) ≡ slack_of d.columns (loaded_at d.loaded row) (assignment d) = slacks.each row lt in
+      meets_step (loaded_at d.loaded row).least d.scale factor (dot (loaded_at d.loaded row).coefficients result) (assignment d (d.columns + 1 + row)) (dot (loaded_at d.loaded row).coefficients (vector_of d.columns (assignment d)))
       (is.rows row lt).least is.positive pf
       (subst (λ (n : ℤ). pos 0 ≤ℤ n) (sym (with_one-same d.scale (basic_solution (system_of d)) (d.columns + 1 + row) (omega arith))) (value_nonneg d is feasible (d.columns + 1 + row)))
       slack
-      (ap (dot (loaded_at d.loaded row).coefficients) (vector_is d values is at ∙ multiple) ∙ dot_times factor (loaded_at d.loaded row).coefficients result)
+      (ap (dot (loaded_at d.loaded row).coefficients) (vector_is d values is at ∙ multiple) ∙ dot_times factor (loaded_at d.loaded row).coefficients result);
 }
 
 abbrev pub WrittenPoint : Tableau → ℕ → List ℤ → Type 0
@@ -153,15 +157,15 @@ WrittenPoint d at cells = Written (slice_index d.basic) (λ i. d.scale +ℤ cons
 pub scaled_none : (d : Tableau) (z : ℤ) → IsDictionary d → z ≡ d.scale → WrittenPoint d 0 (replicate 24 z)
 scaled_none d z is e =
     subst (λ (n : ℤ). WrittenPoint d 0 (replicate 24 n)) (sym e)
-      (written_none (slice_index d.basic) (λ i. d.scale +ℤ constant_of d i) d.scale d.columns (let s = scale_small d is in omega arith))
+    (written_none (slice_index d.basic) (λ i. d.scale +ℤ constant_of d i) d.scale d.columns (let s = scale_small d is in omega arith))
 
 pub scaled_more : (d : Tableau) (at : ℕ) (cells new : List ℤ) (v : ℕ) (z : ℤ) → IsDictionary d → at < length d.loaded
     → v ≡ slice_index d.basic at → v ≤ d.columns → z ≡ d.scale +ℤ constant_of d at → new ≡ slice_set cells (v - 1) z → WrittenPoint d at cells → WrittenPoint d (at + 1) new
 scaled_more d at cells new v z is lt e le ez en w =
     subst (λ (l : List ℤ). WrittenPoint d (at + 1) l)
-      (sym (en ∙ ap (λ (n : ℕ). slice_set cells (n - 1) z) e ∙ ap (slice_set cells (slice_index d.basic at - 1)) ez))
-      (written_more (slice_index d.basic) (λ i. d.scale +ℤ constant_of d i) d.scale d.columns at (length d.loaded) cells vs.basic_distinct lt vs.basic_low is.columns_most
-        (sum_small d.scale (constant_of d at) (scale_small d is) (entry_small d is at d.columns lt (omega arith))) (omega (arith, e)) w)
+    (sym (en ∙ ap (λ (n : ℕ). slice_set cells (n - 1) z) e ∙ ap (slice_set cells (slice_index d.basic at - 1)) ez))
+    (written_more (slice_index d.basic) (λ i. d.scale +ℤ constant_of d i) d.scale d.columns at (length d.loaded) cells vs.basic_distinct lt vs.basic_low is.columns_most
+    (sum_small d.scale (constant_of d at) (scale_small d is) (entry_small d is at d.columns lt (omega arith))) (omega (arith, e)) w)
   where
     vs : HasVariables d
     vs = variables_of d is
@@ -169,11 +173,11 @@ scaled_more d at cells new v z is lt e le ez en w =
 pub scaled_past : (d : Tableau) (at : ℕ) (cells new : List ℤ) (v : ℕ) → v ≡ slice_index d.basic at → d.columns < v → new ≡ cells → WrittenPoint d at cells → WrittenPoint d (at + 1) new
 scaled_past d at cells new v e gt en w =
     subst (λ (l : List ℤ). WrittenPoint d (at + 1) l) (sym en)
-      (written_past (slice_index d.basic) (λ i. d.scale +ℤ constant_of d i) d.scale d.columns at cells (omega (arith, e)) w)
+    (written_past (slice_index d.basic) (λ i. d.scale +ℤ constant_of d i) d.scale d.columns at cells (omega (arith, e)) w)
 
 pub scaled_is : (d : Tableau) (cells : List ℤ) (at : ℕ) → IsDictionary d → length d.loaded ≤ at → at ≤ length d.loaded → WrittenPoint d at cells → IsScaledPoint d (take d.columns cells)
 scaled_is d cells at is ge le w = record {
   len = written_len (slice_index d.basic) (λ i. d.scale +ℤ constant_of d i) d.scale d.columns at d.columns cells is.columns_most w;
   basic = λ row lt h. let lo = (variables_of d is).basic_low row lt in get_or-take d.columns cells (slice_index d.basic row - 1) (pos 0) (omega arith) ∙ w.placed row (omega arith) h;
-  nonbasic = λ column lt none. get_or-take d.columns cells column (pos 0) lt ∙ w.others column (omega (arith, is.columns_most)) (λ i li. none i (omega arith))
+  nonbasic = λ column lt none. get_or-take d.columns cells column (pos 0) lt ∙ w.others column (omega (arith, is.columns_most)) (λ i li. none i (omega arith));
 }

@@ -20,7 +20,7 @@ place_in variable m v = first (λ i. variable i == v) m
 pub place-of : (variable : ℕ → ℕ) (m i : ℕ) → AreDistinct variable m → i < m → place_in variable m (variable i) ≡ i
 place-of variable m i distinct lt =
     first-is (λ j. variable j == variable i) m i lt (eq-eqb (variable i) (variable i) refl)
-      (λ j l. false_from_ne_true (variable j == variable i) (λ e. let same : j ≡ i = distinct j i (omega arith) lt (eqb-true (variable j) (variable i) e) in omega arith))
+    (λ j l. false_from_ne_true (variable j == variable i) (λ e. let same : j ≡ i = distinct j i (omega arith) lt (eqb-true (variable j) (variable i) e) in omega arith))
 
 pub place-found : (variable : ℕ → ℕ) (m v : ℕ) → place_in variable m v < m → variable (place_in variable m v) ≡ v
 place-found variable m v lt = eqb-true (variable (place_in variable m v)) v (first-passes (λ i. variable i == v) m lt)
@@ -51,18 +51,18 @@ placed-suc : (variable : ℕ → ℕ) (m : ℕ) (value : ℕ → ℤ) (n v : ℕ
     → placed variable m value (suc n) v ≡ placed variable m value n v +ℤ at_place (variable n) (value n) v
 placed-suc variable m value n v distinct lt =
     step (nat_lt (place_in variable m v) n) (v == variable n) (placed variable m value (suc n) v) (value (place_in variable m v)) (value n) (pos 0)
-      (λ a b. let below : place_in variable m v < n = ltb-true (place_in variable m v) n a in
-        let same : v ≡ variable n = eqb-true v (variable n) b in
-        let is : place_in variable m v ≡ n = ap (place_in variable m) same ∙ place-of variable m n distinct lt in
-        omega arith)
-      (λ a. let below : place_in variable m v < n = ltb-true (place_in variable m v) n a in
-        cond-true (nat_lt (place_in variable m v) (suc n)) (value (place_in variable m v)) (pos 0) (lt-ltb (place_in variable m v) (suc n) (omega arith)))
-      (λ a b. let same : v ≡ variable n = eqb-true v (variable n) b in
-        let is : place_in variable m v ≡ n = ap (place_in variable m) same ∙ place-of variable m n distinct lt in
-        cond-true (nat_lt (place_in variable m v) (suc n)) (value (place_in variable m v)) (pos 0) (lt-ltb (place_in variable m v) (suc n) (omega arith)) ∙ ap value is)
-      (λ a b. let above : n ≤ place_in variable m v = ltb-false (place_in variable m v) n a in
-        let other : place_in variable m v ≢ n = λ e. eqb-false v (variable n) b (sym (place-found variable m v (omega arith)) ∙ ap variable e) in
-        cond-false (nat_lt (place_in variable m v) (suc n)) (value (place_in variable m v)) (pos 0) (le-ltb (place_in variable m v) (suc n) (omega arith)))
+    (λ a b. let below : place_in variable m v < n = ltb-true (place_in variable m v) n a in
+    let same : v ≡ variable n = eqb-true v (variable n) b in
+    let is : place_in variable m v ≡ n = ap (place_in variable m) same ∙ place-of variable m n distinct lt in
+    omega arith)
+    (λ a. let below : place_in variable m v < n = ltb-true (place_in variable m v) n a in
+    cond-true (nat_lt (place_in variable m v) (suc n)) (value (place_in variable m v)) (pos 0) (lt-ltb (place_in variable m v) (suc n) (omega arith)))
+    (λ a b. let same : v ≡ variable n = eqb-true v (variable n) b in
+    let is : place_in variable m v ≡ n = ap (place_in variable m) same ∙ place-of variable m n distinct lt in
+    cond-true (nat_lt (place_in variable m v) (suc n)) (value (place_in variable m v)) (pos 0) (lt-ltb (place_in variable m v) (suc n) (omega arith)) ∙ ap value is)
+    (λ a b. let above : n ≤ place_in variable m v = ltb-false (place_in variable m v) n a in
+    let other : place_in variable m v ≢ n = λ e. eqb-false v (variable n) b (sym (place-found variable m v (omega arith)) ∙ ap variable e) in
+    cond-false (nat_lt (place_in variable m v) (suc n)) (value (place_in variable m v)) (pos 0) (le-ltb (place_in variable m v) (suc n) (omega arith)))
 
 none_below : (k : ℕ) (x : ℤ) → cond (nat_lt k 0) x (pos 0) ≡ pos 0
 none_below k x = cond-false (nat_lt k 0) x (pos 0) (le-ltb k 0 (omega arith))

@@ -74,8 +74,8 @@ pub quotient_step : (values cells : List ℤ) (g q : ℤ) (place : ℕ) → plac
     → (k : ℕ) → k < place + 1 → g *ℤ get_or (slice_set cells place q) k (pos 0) ≡ get_or values k (pos 0)
 quotient_step values cells g q place lt here before =
     below_more (λ k. g *ℤ get_or (slice_set cells place q) k (pos 0) ≡ get_or values k (pos 0)) place
-      (λ k l. ap (λ (n : ℤ). g *ℤ n) (get_or-set_other cells place k q (pos 0) (omega arith)) ∙ before k l)
-      (ap (λ (n : ℤ). g *ℤ n) (get_or-set_same cells place q (pos 0) lt) ∙ here)
+    (λ k l. ap (λ (n : ℤ). g *ℤ n) (get_or-set_other cells place k q (pos 0) (omega arith)) ∙ before k l)
+    (ap (λ (n : ℤ). g *ℤ n) (get_or-set_same cells place q (pos 0) lt) ∙ here)
 
 pub multiple_is : (values cells : List ℤ) (g : ℤ) → length cells ≡ 24 → length values ≤ 24
     → ((k : ℕ) → k < length values → g *ℤ get_or cells k (pos 0) ≡ get_or values k (pos 0))
@@ -83,8 +83,8 @@ pub multiple_is : (values cells : List ℤ) (g : ℤ) → length cells ≡ 24 �
 multiple_is values cells g len most each =
     let short : length (take (length values) cells) ≡ length values = length-take-le (length values) cells (omega arith) in
     ext_get_or (pos 0) values (times g (take (length values) cells))
-      (sym (length-map (take (length values) cells) (λ x. g *ℤ x) ∙ short))
-      (λ k lt. sym (get_or-map (λ x. g *ℤ x) (take (length values) cells) k (pos 0) (pos 0) (omega (arith, short)) ∙ ap (λ (n : ℤ). g *ℤ n) (get_or-take (length values) cells k (pos 0) lt) ∙ each k lt))
+    (sym (length-map (take (length values) cells) (λ x. g *ℤ x) ∙ short))
+    (λ k lt. sym (get_or-map (λ x. g *ℤ x) (take (length values) cells) k (pos 0) (pos 0) (omega (arith, short)) ∙ ap (λ (n : ℤ). g *ℤ n) (get_or-take (length values) cells k (pos 0) lt) ∙ each k lt))
 
 -- its items, where the list is a multiple
 item_of : (values result : List ℤ) (g : ℤ) → values ≡ times g result → (k : ℕ) → k < length result → get_or values k (pos 0) ≡ g *ℤ get_or result k (pos 0)
@@ -100,9 +100,9 @@ multiple_is_vector values result g is pg e =
       some = omega (arith, len, is.some);
       most = omega (arith, len, is.most);
       within = All-from_get_or (λ x. unsigned_abs x < 2 ^ 96) result (pos 0) (λ k lt.
-        let small : unsigned_abs (get_or result k (pos 0)) ≤ unsigned_abs (get_or values k (pos 0)) = factor_small g (get_or result k (pos 0)) (get_or values k (pos 0)) pg (sym (item_of values result g e k lt)) in
-        let bound : unsigned_abs (get_or values k (pos 0)) < 2 ^ 96 = is.within k (pos 0) (omega (arith, len)) in
-        omega arith)
+          let small : unsigned_abs (get_or result k (pos 0)) ≤ unsigned_abs (get_or values k (pos 0)) = factor_small g (get_or result k (pos 0)) (get_or values k (pos 0)) pg (sym (item_of values result g e k lt)) in
+          let bound : unsigned_abs (get_or values k (pos 0)) < 2 ^ 96 = is.within k (pos 0) (omega (arith, len)) in
+          omega arith);
     }
 
 positive_factor : (g q v : ℤ) → pos 1 ≤ℤ g → pos 1 ≤ℤ v → v ≡ g *ℤ q → pos 1 ≤ℤ q
@@ -111,12 +111,14 @@ positive_factor g (pos zero) v pg pv e = absurd (impossible (pos zero *ℤ g) v 
   where
     impossible : (a v : ℤ) → a ≤ℤ pos 0 → pos 1 ≤ℤ v → v ≡ a → ⊥
     impossible a v h k e = omega (arith, ints)
+
     weak : (g : ℤ) → pos 1 ≤ℤ g → pos 0 ≤ℤ g
     weak g h = omega (arith, ints)
 positive_factor g (negsuc q) v pg pv e = absurd (impossible (negsuc q *ℤ g) v (mul_nonpos (negsuc q) g (omega (arith, ints)) (weak g pg)) pv (e ∙ *ℤ_comm g (negsuc q)))
   where
     impossible : (a v : ℤ) → a ≤ℤ pos 0 → pos 1 ≤ℤ v → v ≡ a → ⊥
     impossible a v h k e = omega (arith, ints)
+
     weak : (g : ℤ) → pos 1 ≤ℤ g → pos 0 ≤ℤ g
     weak g h = omega (arith, ints)
 
@@ -124,7 +126,7 @@ pub multiple_is_positive : (values result : List ℤ) (g : ℤ) → All (λ x. p
 multiple_is_positive values result g positive pg e =
     let len : length values ≡ length result = len_of values result g e in
     All-from_get_or (λ x. pos 1 ≤ℤ x) result (pos 0) (λ k lt.
-      positive_factor g (get_or result k (pos 0)) (get_or values k (pos 0)) pg (positive k (pos 0) (omega (arith, len))) (item_of values result g e k lt))
+    positive_factor g (get_or result k (pos 0)) (get_or values k (pos 0)) pg (positive k (pos 0) (omega (arith, len))) (item_of values result g e k lt))
 
 no_greater : (g d : ℕ) → 1 ≤ g → (g * d) ∣ g → d ≡ 1
 no_greater g zero some h = let z : g * 0 ≡ 0 = omega arith in let none : g ≡ 0 = eq-zero_of_zero-dvd (subst (λ (n : ℕ). n ∣ g) z h) in absurd (omega arith)
@@ -141,8 +143,8 @@ quotient_has_no_divisor values result (negsuc g) pg e greatest d divides = absur
 quotient_has_no_divisor values result (pos g) pg e greatest d divides =
     let len : length values ≡ length result = len_of values result (pos g) e in
     no_greater g d (omega (arith, ints))
-      (greatest (g * d) (All-from_get_or (λ x. (g * d) ∣ unsigned_abs x) values (pos 0) (λ k lt.
-        let l : k < length result = omega (arith, len) in
-        subst (λ (n : ℕ). (g * d) ∣ n)
-          (sym (ap unsigned_abs (item_of values result (pos g) e k l) ∙ unsigned_abs-mul (pos g) (get_or result k (pos 0))))
-          (mul-dvd-mul_left d g (divides k (pos 0) l)))))
+    (greatest (g * d) (All-from_get_or (λ x. (g * d) ∣ unsigned_abs x) values (pos 0) (λ k lt.
+    let l : k < length result = omega (arith, len) in
+    subst (λ (n : ℕ). (g * d) ∣ n)
+    (sym (ap unsigned_abs (item_of values result (pos g) e k l) ∙ unsigned_abs-mul (pos g) (get_or result k (pos 0))))
+    (mul-dvd-mul_left d g (divides k (pos 0) l)))))

@@ -22,7 +22,7 @@ written_none variable value rest most small = record {
   len = refl;
   placed = λ i lt le. absurd (omega arith);
   others = λ k lt none. get_or-replicate 24 k rest (pos 0) lt;
-  sizes = λ k lt. subst (λ (n : ℤ). unsigned_abs n < 2 ^ 96) (sym (get_or-replicate 24 k rest (pos 0) lt)) small
+  sizes = λ k lt. subst (λ (n : ℤ). unsigned_abs n < 2 ^ 96) (sym (get_or-replicate 24 k rest (pos 0) lt)) small;
 }
 
 pub written_more : (variable : ℕ → ℕ) (value : ℕ → ℤ) (rest : ℤ) (most n m : ℕ) (cells : List ℤ) → AreDistinct variable m → n < m → ((i : ℕ) → i < m → 1 ≤ variable i) → most ≤ 24
@@ -32,36 +32,39 @@ written_more variable value rest most n m cells distinct lt low few small le w =
   len = length-set cells (variable n - 1) (value n) ∙ w.len;
   placed = λ i l h. here i l h (cases_Bool (i == n));
   others = λ k l none. get_or-set_other cells (variable n - 1) k (value n) (pos 0) (apart k (none n (omega arith)) (low n lt)) ∙ w.others k l (λ i li. none i (omega arith));
-  sizes = λ k l. size k l (cases_Bool (k == (variable n - 1)))
+  sizes = λ k l. size k l (cases_Bool (k == (variable n - 1)));
 }
   where
     apart : (k : ℕ) → variable n ≢ k + 1 → 1 ≤ variable n → k ≢ variable n - 1
     apart k ne lo e = omega arith
+
     within : variable n - 1 < length cells
     within = let lo = low n lt in omega (arith, w.len)
+
     here : (i : ℕ) → i < n + 1 → variable i ≤ most → ((i == n) ≡ true) ⊎ ((i == n) ≡ false) → get_or (slice_set cells (variable n - 1) (value n)) (variable i - 1) (pos 0) ≡ value i
     here i l h (inl e) =
-      let same : i ≡ n = eqb-true i n e in
-      ap (λ (j : ℕ). get_or (slice_set cells (variable n - 1) (value n)) (variable j - 1) (pos 0)) same
-      ∙ get_or-set_same cells (variable n - 1) (value n) (pos 0) within ∙ ap value (sym same)
+        let same : i ≡ n = eqb-true i n e in
+        ap (λ (j : ℕ). get_or (slice_set cells (variable n - 1) (value n)) (variable j - 1) (pos 0)) same
+        ∙ get_or-set_same cells (variable n - 1) (value n) (pos 0) within ∙ ap value (sym same)
     here i l h (inr e) =
-      let ne : i ≢ n = eqb-false i n e in
-      let far : variable i ≢ variable n = λ s. ne (distinct i n (omega arith) lt s) in
-      let lo_i = low i (omega arith) in
-      let lo_n = low n lt in
-      get_or-set_other cells (variable n - 1) (variable i - 1) (value n) (pos 0) (λ s. far (omega arith)) ∙ w.placed i (omega arith) h
+        let ne : i ≢ n = eqb-false i n e in
+        let far : variable i ≢ variable n = λ s. ne (distinct i n (omega arith) lt s) in
+        let lo_i = low i (omega arith) in
+        let lo_n = low n lt in
+        get_or-set_other cells (variable n - 1) (variable i - 1) (value n) (pos 0) (λ s. far (omega arith)) ∙ w.placed i (omega arith) h
+
     size : (k : ℕ) → k < 24 → ((k == (variable n - 1)) ≡ true) ⊎ ((k == (variable n - 1)) ≡ false) → unsigned_abs (get_or (slice_set cells (variable n - 1) (value n)) k (pos 0)) < 2 ^ 96
     size k l (inl e) =
-      subst (λ (x : ℤ). unsigned_abs x < 2 ^ 96) (sym (ap (λ (j : ℕ). get_or (slice_set cells (variable n - 1) (value n)) j (pos 0)) (eqb-true k (variable n - 1) e) ∙ get_or-set_same cells (variable n - 1) (value n) (pos 0) within)) small
+        subst (λ (x : ℤ). unsigned_abs x < 2 ^ 96) (sym (ap (λ (j : ℕ). get_or (slice_set cells (variable n - 1) (value n)) j (pos 0)) (eqb-true k (variable n - 1) e) ∙ get_or-set_same cells (variable n - 1) (value n) (pos 0) within)) small
     size k l (inr e) =
-      subst (λ (x : ℤ). unsigned_abs x < 2 ^ 96) (sym (get_or-set_other cells (variable n - 1) k (value n) (pos 0) (eqb-false k (variable n - 1) e))) (w.sizes k l)
+        subst (λ (x : ℤ). unsigned_abs x < 2 ^ 96) (sym (get_or-set_other cells (variable n - 1) k (value n) (pos 0) (eqb-false k (variable n - 1) e))) (w.sizes k l)
 
 pub written_past : (variable : ℕ → ℕ) (value : ℕ → ℤ) (rest : ℤ) (most n : ℕ) (cells : List ℤ) → most < variable n → Written variable value rest most n cells → Written variable value rest most (n + 1) cells
 written_past variable value rest most n cells gt w = record {
   len = w.len;
   placed = λ i l h. w.placed i (before i l h (cases_Bool (i == n))) h;
   others = λ k l none. w.others k l (λ i li. none i (omega arith));
-  sizes = w.sizes
+  sizes = w.sizes;
 }
   where
     before : (i : ℕ) → i < n + 1 → variable i ≤ most → ((i == n) ≡ true) ⊎ ((i == n) ≡ false) → i < n
@@ -76,8 +79,8 @@ written_vector variable value rest most n columns cells some few w =
       some = omega (arith, len);
       most = omega (arith, len);
       within = All-from_get_or (λ x. unsigned_abs x < 2 ^ 96) (take columns cells) (pos 0) (λ k lt.
-        let l : k < columns = omega (arith, len) in
-        subst (λ (x : ℤ). unsigned_abs x < 2 ^ 96) (sym (get_or-take columns cells k (pos 0) l)) (w.sizes k (omega arith)))
+          let l : k < columns = omega (arith, len) in
+          subst (λ (x : ℤ). unsigned_abs x < 2 ^ 96) (sym (get_or-take columns cells k (pos 0) l)) (w.sizes k (omega arith)));
     }
 
 pub written_len : (variable : ℕ → ℕ) (value : ℕ → ℤ) (rest : ℤ) (most n columns : ℕ) (cells : List ℤ) → columns ≤ 24 → Written variable value rest most n cells → length (take columns cells) ≡ columns

@@ -63,10 +63,10 @@ how_many-fewer test other (suc n) p lt h fails passes = from (λ (ne : p ≢ n).
   where
     from : (p ≢ n → how_many test n < how_many other n) → ((p == n) ≡ true) ⊎ ((p == n) ≡ false) → how_many test n + cond (test n) 1 0 < how_many other n + cond (other n) 1 0
     from rest (inl e) =
-      let same : p ≡ n = eqb-true p n e in
-      here_less (test n) (other n) (how_many test n) (how_many other n) (sym (ap test same) ∙ fails) (sym (ap other same) ∙ passes) (how_many-part test other n (λ i l. h i (omega arith)))
+        let same : p ≡ n = eqb-true p n e in
+        here_less (test n) (other n) (how_many test n) (how_many other n) (sym (ap test same) ∙ fails) (sym (ap other same) ∙ passes) (how_many-part test other n (λ i l. h i (omega arith)))
     from rest (inr e) =
-      there_less (test n) (other n) (how_many test n) (how_many other n) (h n (omega arith)) (rest (eqb-false p n e))
+        there_less (test n) (other n) (how_many test n) (how_many other n) (h n (omega arith)) (rest (eqb-false p n e))
 
 -- the place has a later variable with a positive weight
 abbrev pub is_later : Tableau → ℕ → ℕ → ℕ → Bool
@@ -82,12 +82,12 @@ positive_test a h = true_from_ne_false (int_lt (pos 0) a) (λ e. let g = not_pos
 pub remaining_falls : (d : Tableau) (row above v place : ℕ) → IsNextWeight d row above place → v ≡ variable_at d row place → remaining d row v < remaining d row above
 remaining_falls d row above v place is e =
     how_many-fewer (is_later d row v) (is_later d row above) (d.columns + 1) place (let w = is.within in omega arith)
-      (λ i l t.
-        let gt : v < variable_at d row i = ltb-true v (variable_at d row i) (and_left (nat_lt v (variable_at d row i)) (int_lt (pos 0) (weight_at d row i)) t) in
-        both_true (lt-ltb above (variable_at d row i) (let a = is.later in omega (arith, e))) (and_right (nat_lt v (variable_at d row i)) (int_lt (pos 0) (weight_at d row i)) t))
-      (false_from_ne_true (is_later d row v place) (λ t.
-        let gt : v < variable_at d row place = ltb-true v (variable_at d row place) (and_left (nat_lt v (variable_at d row place)) (int_lt (pos 0) (weight_at d row place)) t) in omega arith))
-      (both_true (lt-ltb above (variable_at d row place) is.later) (positive_test (weight_at d row place) is.positive))
+    (λ i l t.
+    let gt : v < variable_at d row i = ltb-true v (variable_at d row i) (and_left (nat_lt v (variable_at d row i)) (int_lt (pos 0) (weight_at d row i)) t) in
+    both_true (lt-ltb above (variable_at d row i) (let a = is.later in omega (arith, e))) (and_right (nat_lt v (variable_at d row i)) (int_lt (pos 0) (weight_at d row i)) t))
+    (false_from_ne_true (is_later d row v place) (λ t.
+    let gt : v < variable_at d row place = ltb-true v (variable_at d row place) (and_left (nat_lt v (variable_at d row place)) (int_lt (pos 0) (weight_at d row place)) t) in omega arith))
+    (both_true (lt-ltb above (variable_at d row place) is.later) (positive_test (weight_at d row place) is.positive))
 
 -- ---- the sum over the slacks
 
@@ -105,11 +105,12 @@ sum-skip f n (suc m) le h = from (λ (k : n ≤ m). sum-skip f n m k (λ i l j. 
   where
     drop_zero : (a b : ℤ) → b ≡ pos 0 → a +ℤ b ≡ a
     drop_zero a b e = omega (arith, sums)
+
     from : (n ≤ m → sum_below f m ≡ sum_below f n) → ((n == suc m) ≡ true) ⊎ ((n == suc m) ≡ false) → sum_below f m +ℤ f m ≡ sum_below f n
     from rest (inl e) = sym (sum-suc f m) ∙ ap (sum_below f) (sym (eqb-true n (suc m) e))
     from rest (inr e) =
-      let ne : n ≢ suc m = eqb-false n (suc m) e in
-      drop_zero (sum_below f m) (f m) (h m (omega arith) (omega arith)) ∙ rest (omega arith)
+        let ne : n ≢ suc m = eqb-false n (suc m) e in
+        drop_zero (sum_below f m) (f m) (h m (omega arith) (omega arith)) ∙ rest (omega arith)
 
 weighted-append : (of : ℕ → ℤ) (xs : List RowWeight) (x : RowWeight) → weighted of (xs ++ x ∷ []) ≡ weighted of xs +ℤ x.weight *ℤ of x.row
 weighted-append of [] x = flip (x.weight *ℤ of x.row)
@@ -131,6 +132,7 @@ zero_weight d is row u lt blocked none = from (has_place d row u)
     zero_of (pos zero) h n = refl
     zero_of (pos (suc a)) h n = absurd (n (omega (arith, ints)))
     zero_of (negsuc a) h n = absurd (omega (arith, ints))
+
     from : ((p : ℕ) × (p < d.columns + 1) × (variable_at d row p ≡ u)) ⊎ ((p : ℕ) → p < d.columns + 1 → variable_at d row p ≢ u) → weight_of d row u ≡ pos 0
     from (inl f) = sym (ap (weight_of d row) f.2) ∙ weight_of-at d is row f.0 lt f.1 ∙ zero_of (weight_at d row f.0) (weight_nonneg d is row f.0 blocked f.1) (none f.0 f.1 f.2)
     from (inr n) = weight_of-none d row u n
@@ -160,7 +162,7 @@ slacks_none d row columns is e = record {
   weights = record { most = omega arith; each = λ k x lt. absurd (omega arith); ascending = λ k lt. absurd (omega arith) };
   below = λ k x lt. absurd (omega arith);
   room = let h = how_many-le (is_later d row columns) (d.columns + 1) in omega (arith, is.columns_most, h);
-  summed = λ of. sym (sum-zero (slack_term d row of) (columns + 1) (λ u lt. cond-false (nat_lt d.columns u) (weight_of d row u *ℤ of (u - d.columns)) (pos 0) (le-ltb d.columns u (omega arith))))
+  summed = λ of. sym (sum-zero (slack_term d row of) (columns + 1) (λ u lt. cond-false (nat_lt d.columns u) (weight_of d row u *ℤ of (u - d.columns)) (pos 0) (le-ltb d.columns u (omega arith))));
 }
 
 pub slack_room : (d : Tableau) (row columns above place : ℕ) (rows : List RowWeight) → IsNextWeight d row above place → SlacksSoFar d row columns above rows → length rows < 25
@@ -175,43 +177,49 @@ slacks_more d row columns above v place w rows new is lt blocked next ev ew en s
   low = let a = next.later in let b = so.low in omega (arith, ev);
   high = omega (arith, ev, range.1);
   weights = subst AreRowWeights (sym en) (rows_more rows x so.weights (slack_room d row columns above place rows next so)
-    (record { numbered = let a = next.later in let b = so.low in omega (arith, ev, so.columns_is); positive = subst (λ (n : ℤ). pos 0 <ℤ n) (sym ew) next.positive;
-      within = subst (λ (n : ℤ). unsigned_abs n < 2 ^ 96) (sym ew) (weight_small d is row place lt (let h = next.within in omega arith)) })
-    (λ k y l. let b = so.below k y l in let a = next.later in omega (arith, ev, so.columns_is)));
+      (record {
+        numbered = let a = next.later in let b = so.low in omega (arith, ev, so.columns_is);
+        positive = subst (λ (n : ℤ). pos 0 <ℤ n) (sym ew) next.positive;
+        within = subst (λ (n : ℤ). unsigned_abs n < 2 ^ 96) (sym ew) (weight_small d is row place lt (let h = next.within in omega arith));
+      })
+      (λ k y l. let b = so.below k y l in let a = next.later in omega (arith, ev, so.columns_is)));
   below = subst (All (λ item. item.row + d.columns ≤ v)) (sym en)
-    (All-append (λ item. item.row + d.columns ≤ v) rows (x ∷ []) (λ k y l. let b = so.below k y l in let a = next.later in omega (arith, ev))
+      (All-append (λ item. item.row + d.columns ≤ v) rows (x ∷ []) (λ k y l. let b = so.below k y l in let a = next.later in omega (arith, ev))
       (one_item (λ item. item.row + d.columns ≤ v) x (let a = next.later in let b = so.low in omega (arith, ev, so.columns_is))));
   room = let len : length new ≡ length rows + 1 = ap length en ∙ length-append rows (x ∷ []) in
-    let falls = remaining_falls d row above v place next ev in let r = so.room in omega (arith, len);
-  summed = λ of. sum_step of
+      let falls = remaining_falls d row above v place next ev in let r = so.room in omega (arith, len);
+  summed = λ of. sum_step of;
 }
   where
     x : RowWeight
     x = record { row = v - columns; weight = w }
+
     range : (1 ≤ variable_at d row place) × (variable_at d row place ≤ d.columns + length d.loaded)
     range = variable_range d is row place lt (let h = next.within in omega arith)
+
     zeros : (of : ℕ → ℤ) (u : ℕ) → above + 1 ≤ u → u < v → slack_term d row of u ≡ pos 0
     zeros of u l k = zero_term d row u of (zero_weight d is row u lt blocked (λ p lp e positive_weight.
-      let le : variable_at d row place ≤ variable_at d row p = next.least p (omega arith) (omega (arith, e)) positive_weight in
-      omega (arith, ev, e)))
+        let le : variable_at d row place ≤ variable_at d row p = next.least p (omega arith) (omega (arith, e)) positive_weight in
+        omega (arith, ev, e)))
+
     sum_step : (of : ℕ → ℤ) → weighted of new ≡ sum_below (slack_term d row of) (v + 1)
     sum_step of =
-      let place_is : v + 1 ≡ suc v = omega arith in
-      let gt : above < v = let a = next.later in omega (arith, ev) in
-      let over : d.columns < v = let b = so.low in omega arith in
-      ap (weighted of) en
-      ∙ weighted-append of rows x
-      ∙ ap (λ (s : ℤ). s +ℤ w *ℤ of (v - columns)) (so.summed of ∙ sym (sum-skip (slack_term d row of) (above + 1) v (omega arith) (zeros of)))
-      ∙ ap (λ (n : ℤ). sum_below (slack_term d row of) v +ℤ n)
-          (ap (λ (n : ℤ). n *ℤ of (v - columns)) (ew ∙ sym (ap (weight_of d row) ev ∙ weight_of-at d is row place lt (let h = next.within in omega arith)))
-          ∙ ap (λ (n : ℕ). weight_of d row v *ℤ of (v - n)) so.columns_is
-          ∙ sym (cond-true (nat_lt d.columns v) (weight_of d row v *ℤ of (v - d.columns)) (pos 0) (lt-ltb d.columns v over)))
-      ∙ sym (sum-suc (slack_term d row of) v)
-      ∙ ap (sum_below (slack_term d row of)) (sym place_is)
+        let place_is : v + 1 ≡ suc v = omega arith in
+        let gt : above < v = let a = next.later in omega (arith, ev) in
+        let over : d.columns < v = let b = so.low in omega arith in
+        ap (weighted of) en
+        ∙ weighted-append of rows x
+        ∙ ap (λ (s : ℤ). s +ℤ w *ℤ of (v - columns)) (so.summed of ∙ sym (sum-skip (slack_term d row of) (above + 1) v (omega arith) (zeros of)))
+        ∙ ap (λ (n : ℤ). sum_below (slack_term d row of) v +ℤ n)
+        (ap (λ (n : ℤ). n *ℤ of (v - columns)) (ew ∙ sym (ap (weight_of d row) ev ∙ weight_of-at d is row place lt (let h = next.within in omega arith)))
+        ∙ ap (λ (n : ℕ). weight_of d row v *ℤ of (v - n)) so.columns_is
+        ∙ sym (cond-true (nat_lt d.columns v) (weight_of d row v *ℤ of (v - d.columns)) (pos 0) (lt-ltb d.columns v over)))
+        ∙ sym (sum-suc (slack_term d row of) v)
+        ∙ ap (sum_below (slack_term d row of)) (sym place_is)
 
 pub slacks_done : (d : Tableau) (row columns above : ℕ) (rows : List RowWeight) → IsDictionary d → row < length d.loaded → IsBlocked d row → HasNoNextWeight d row above → SlacksSoFar d row columns above rows
     → HasSlackWeights d row (d.columns + 1 + length d.loaded) rows
 slacks_done d row columns above rows is lt blocked none so of =
     so.summed of
     ∙ sym (sum-skip (slack_term d row of) (above + 1) (d.columns + 1 + length d.loaded) (let h = so.high in omega arith)
-        (λ u l k. zero_term d row u of (zero_weight d is row u lt blocked (λ p lp e positive_weight. none p (omega arith) (omega (arith, e)) positive_weight))))
+    (λ u l k. zero_term d row u of (zero_weight d is row u lt blocked (λ p lp e positive_weight. none p (omega arith) (omega (arith, e)) positive_weight))))

@@ -74,7 +74,7 @@ fn next_slack(work: &Dictionary, row: u32, above: u32) -> Option<(u32, i128)>
     ensures { MatchOption result
         (HasNoNextWeight work.now (row - 1) above)
         (λ found. (place : ℕ) × IsNextWeight work.now (row - 1) above place
-            × (found.0 ≡ variable_at work.now (row - 1) place) × (found.1 ≡ weight_at work.now (row - 1) place)) }
+        × (found.0 ≡ variable_at work.now (row - 1) place) × (found.1 ≡ weight_at work.now (row - 1) place)) }
 {
     let mut found = None;
     let mut least = u32::MAX;

@@ -33,8 +33,8 @@ impl Model for RowWeights {
     ghost inverse = { λ items. record { items = padded items; len = length items } };
 
     ghost inverse_ok = { λ t h i. record {
-        items = padded-take t.len t.items h.0 i;
-        len = length-padded t.len t.items h.0 i;
+      items = padded-take t.len t.items h.0 i;
+      len = length-padded t.len t.items h.0 i;
     } };
 }
 

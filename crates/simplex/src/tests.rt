@@ -1,7 +1,6 @@
 //! What no clause says: which point and which clash small systems give.
 use super::*;
-use criteria_model::Vector;
-use criteria_model::Row;
+use criteria_model::{Row, Vector};
 use fraction_free::Dictionary;
 use std::test::Fail;
 

@@ -7,5 +7,5 @@ use Rattle.simplex.proofs.choice.leaving_row.Given as goal
 abbrev pub invariant-loop-at : goal.invariant-loop-at
 invariant-loop-at l = record {
   below : (other : ℕ) → other < l.at → constant_of l.work other <ℤ pos 0 → l.least ≤ slice_index l.work.basic other;
-  found_is : MatchOption l.found (l.least ≡ 4294967295) (λ row. (1 ≤ row) × (row ≤ l.at) × (constant_of l.work (row - 1) <ℤ pos 0) × (l.least ≡ slice_index l.work.basic (row - 1)))
+  found_is : MatchOption l.found (l.least ≡ 4294967295) (λ row. (1 ≤ row) × (row ≤ l.at) × (constant_of l.work (row - 1) <ℤ pos 0) × (l.least ≡ slice_index l.work.basic (row - 1)));
 }

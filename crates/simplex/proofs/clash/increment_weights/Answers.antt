@@ -10,22 +10,23 @@ use Rattle.simplex.proofs.clash.increment_weights.Goals.{then-number-columns, el
 
 pub loop-place-preserved : goal.loop-place-preserved
 loop-place-preserved c =
-    elim c.if-number-columns.branch
-      [ then-number-columns w ↦
+    elim c.if-number-columns.branch [
+      | then-number-columns w ↦
           weights_more c.args.work.now (c.args.row - 1) c.loop-place.place c.loop-place.cells c.if-number-columns.cells c.weighted_variable-variable.result.0 (to_z w128 (of_z w128 c.weighted_variable-variable.result.1)) c.cols.ensures.dictionary (omega arith)
-            (omega (arith, c.cols-place-end.ensures.value)) c.weighted_variable-variable.ensures.variable (omega (arith, w.if-number-columns.true, c.from-columns.ensures, c.cols.ensures.value))
-            (kept c.weighted_variable-variable.result.1 (let s = c.weighted_variable-variable.ensures.size in omega arith) ∙ c.weighted_variable-variable.ensures.weight)
-            w.cells-is c.loop-place.invariant
+          (omega (arith, c.cols-place-end.ensures.value)) c.weighted_variable-variable.ensures.variable (omega (arith, w.if-number-columns.true, c.from-columns.ensures, c.cols.ensures.value))
+          (kept c.weighted_variable-variable.result.1 (let s = c.weighted_variable-variable.ensures.size in omega arith) ∙ c.weighted_variable-variable.ensures.weight)
+          w.cells-is c.loop-place.invariant
       | else-number-columns w ↦
           weights_past c.args.work.now (c.args.row - 1) c.loop-place.place c.loop-place.cells c.if-number-columns.cells c.weighted_variable-variable.result.0
-            c.weighted_variable-variable.ensures.variable (omega (arith, w.if-number-columns.false, c.from-columns.ensures, c.cols.ensures.value)) w.cells-is c.loop-place.invariant ]
+          c.weighted_variable-variable.ensures.variable (omega (arith, w.if-number-columns.false, c.from-columns.ensures, c.cols.ensures.value)) w.cells-is c.loop-place.invariant
+    ]
 
 pub of-requires : goal.of-requires
 of-requires c =
     let columns : c.from-columns.result ≡ c.args.work.now.columns = c.from-columns.ensures ∙ c.cols.ensures.value in
     subst (λ (n : ℕ). IsVector (take n c.loop-place.cells)) (sym columns)
-      (written_vector (variable_at c.args.work.now (c.args.row - 1)) (weight_at c.args.work.now (c.args.row - 1)) (pos 0) c.args.work.now.columns c.loop-place.place c.args.work.now.columns c.loop-place.cells
-        c.cols.ensures.dictionary.columns_some c.cols.ensures.dictionary.columns_most c.loop-place.invariant)
+    (written_vector (variable_at c.args.work.now (c.args.row - 1)) (weight_at c.args.work.now (c.args.row - 1)) (pos 0) c.args.work.now.columns c.loop-place.place c.args.work.now.columns c.loop-place.cells
+    c.cols.ensures.dictionary.columns_some c.cols.ensures.dictionary.columns_most c.loop-place.invariant)
 
 pub returns-clause-weights : goal.returns-clause-weights
 returns-clause-weights c column lt =

@@ -31,7 +31,7 @@ slacks-preserved c =
     let e = c.in-Some.ensures in
     let small : unsigned_abs c.in-Some.weight < 2 ^ 96 = subst (λ (n : ℤ). unsigned_abs n < 2 ^ 96) (sym e.3) (weight_small c.args.work.now c.cols.ensures.dictionary (c.args.row - 1) e.0 (omega arith) (let h = e.1.within in omega arith)) in
     slacks_more c.args.work.now (c.args.row - 1) c.from-columns.result c.slacks.above c.in-Some.variable e.0 (to_z w128 (of_z w128 c.in-Some.weight)) c.slacks.rows c.push.new.self c.cols.ensures.dictionary (omega arith) c.requires.blocked
-      e.1 e.2 (kept c.in-Some.weight (omega arith) ∙ e.3) c.push.ensures c.slacks.invariant
+    e.1 e.2 (kept c.in-Some.weight (omega arith) ∙ e.3) c.push.ensures c.slacks.invariant
 
 pub returns-clause-sums : goal.returns-clause-sums
 returns-clause-sums c =

@@ -9,5 +9,5 @@ invariant-loop-value l = record {
   never_negative : pos 0 ≤ℤ l.divisor;
   size : unsigned_abs l.divisor < 2 ^ 126;
   divides : (k : ℕ) → k < l.value-index → unsigned_abs l.divisor ∣ unsigned_abs (get_or l.values k (pos 0));
-  greatest : (d : ℕ) → ((k : ℕ) → k < l.value-index → d ∣ unsigned_abs (get_or l.values k (pos 0))) → d ∣ unsigned_abs l.divisor
+  greatest : (d : ℕ) → ((k : ℕ) → k < l.value-index → d ∣ unsigned_abs (get_or l.values k (pos 0))) → d ∣ unsigned_abs l.divisor;
 }
