@@ -10,7 +10,7 @@ use std::{env, io};
 
 fn main(rt: HostRuntime) -> io::Result<()> {
     let timed = env::args(&rt)?.any(|word| word.as_str() == "time");
-    let rounds = if timed { 200_000 } else { 1_000 };
+    let rounds = if timed { 2_000_000 } else { 1_000 };
     println!(rt; "threads  lock    steps")?;
     let start = Instant::now(&rt)?;
     let steps = turns::alone(&rt, rt.alloc(), rounds)?;
