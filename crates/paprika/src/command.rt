@@ -1,6 +1,6 @@
 ghost use Rattle.std.specs.Prelude.{◌≡◌, ◌↔◌, ◌+◌, ◌≤◌, [], ◌++◌, length, codes, IsTrue};
 ghost use Rattle.std.specs.Fmt.{decimal};
-ghost use Rattle.paprika.specs.Command.{IsCheck, usage_line, verdict_line, Writes, Answers, ChecksFile, ShowsUsage};
+ghost use Rattle.paprika.specs.Command.{IsCheck, usage_line, verdict_line, Writes, Answers, ChecksFile, IsProved, ShowsUsage};
 
 use edges::{Sink, Source, Text};
 use itoa::Buffer;
@@ -38,6 +38,8 @@ pub fn plain_command<S: Source, K: Sink>(
         (record { left = S.left source.new; faults = S.faults source.new })
         (record { written = K.written sink.old; faults = K.faults sink.old })
         (record { written = K.written sink.new; faults = K.faults sink.new }) result }
+    // Each value vector that meets the answers above an eliminated pair ranks it as the file says.
+    ensures proved { IsCheck words.now → result ≡ 0 → IsProved (S.left source.old) }
     ensures usage { (¬ IsCheck words.now) → ShowsUsage
         (record { written = K.written sink.old; faults = K.faults sink.old })
         (record { written = K.written sink.new; faults = K.faults sink.new }) result }
