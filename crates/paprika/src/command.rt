@@ -38,8 +38,23 @@ pub fn plain_command<S: Source, K: Sink>(
         (record { left = S.left source.new; faults = S.faults source.new })
         (record { written = K.written sink.old; faults = K.faults sink.old })
         (record { written = K.written sink.new; faults = K.faults sink.new }) result }
-    // Each value vector that meets the answers above an eliminated pair ranks it as the file says.
+
+    // Status 0 says that each value vector that meets the answers above an eliminated pair ranks it so.
     ensures proved { IsCheck words.now → result ≡ 0 → IsProved (S.left source.old) }
+    ensures usage { (¬ IsCheck words.now) → ShowsUsage
+        (record { written = K.written sink.old; faults = K.faults sink.old })
+        (record { written = K.written sink.new; faults = K.faults sink.new }) result }
+{
+    run(alloc, words, source, sink)
+}
+
+/// Does what the words say, and returns the status.
+fn run<S: Source, K: Sink>(alloc: Global, words: &[String], source: &mut S, sink: &mut K) -> u8
+    ensures check { IsCheck words.now → ChecksFile
+        (record { left = S.left source.old; faults = S.faults source.old })
+        (record { left = S.left source.new; faults = S.faults source.new })
+        (record { written = K.written sink.old; faults = K.faults sink.old })
+        (record { written = K.written sink.new; faults = K.faults sink.new }) result }
     ensures usage { (¬ IsCheck words.now) → ShowsUsage
         (record { written = K.written sink.old; faults = K.faults sink.old })
         (record { written = K.written sink.new; faults = K.faults sink.new }) result }

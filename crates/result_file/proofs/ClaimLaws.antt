@@ -1,6 +1,6 @@
 -- What the line of a claim does to the claims before it.
-use Rattle.std.proofs.Common.{◌≡◌, ◌≢◌, ℕ, zero, suc, ◌+◌, ◌-◌, ◌<◌, ◌≤◌, List, [], ◌∷◌, ◌++◌, length, map, take, refl, sym, ap, subst, ◌∙◌, arith, append_assoc, append-nil, length-append, Option, Some, None, ◌⊎◌, inl, inr}
-use Rattle.std.specs.Prelude.{sum_by, Result, Ok, Err, IfErr}
+use Rattle.std.proofs.Common.{◌≡◌, ◌≢◌, ℕ, suc, ◌+◌, ◌-◌, ◌<◌, ◌≤◌, List, [], ◌∷◌, ◌++◌, length, refl, sym, ap, subst, ◌∙◌, arith, append-nil, length-append, Some, None}
+use Rattle.std.specs.Prelude.{Result, Ok, Err, IfErr}
 use Rattle.std.specs.List.{All}
 use Rattle.std.proofs.lemmas.List.Sums.{sum_by-cons}
 use Rattle.criteria_model.specs.declared.pairs.Pair.{Pair}
@@ -23,14 +23,14 @@ use Rattle.result_file.specs.declared.verdicts.Part.{Part}
 use Rattle.result_file.specs.declared.verdicts.Part.TheVariants.{Form}
 use Rattle.result_file.specs.Claims.{Claim, answered, eliminated, answers_of, pair_of}
 use Rattle.result_file.specs.Parts.{part_of}
-use Rattle.result_file.specs.Texts.{claim_line, answer_line, elimination_line, end_line}
+use Rattle.result_file.specs.Texts.{claim_line, end_line}
 use Rattle.result_file.specs.Reading.{answer_at, elimination_at}
 use Rattle.result_file.specs.Eliminations.{Reads}
 use Rattle.result_file.specs.Checked.{most_claims, HasForm, HasPairForm, HasEliminationForm, FailsAs, Fails, begun}
 use Rattle.result_file.specs.Kept.{KeptClaims, Keeps, Adds, Accepts}
 use Rattle.result_file.specs.Stops.{StopsAt, Refuses}
-use Rattle.result_file.proofs.LineLaws.{IsPair, IsExactly, answer_takes, answer_again}
-use Rattle.result_file.proofs.EliminationLaws.{IsReadElimination, IsReadCombination, AreReadCites, IsReadCite, elimination_takes, elimination_again}
+use Rattle.result_file.proofs.LineLaws.{IsPair, answer_takes, answer_again}
+use Rattle.result_file.proofs.EliminationLaws.{IsReadElimination, elimination_takes, elimination_again}
 
 -- ---- the numbers of criteria and increments
 

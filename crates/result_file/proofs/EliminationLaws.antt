@@ -1,12 +1,12 @@
 -- What an eliminate line reads as is what it spells.
-use Rattle.std.proofs.Common.{◌≡◌, ◌≢◌, ℕ, zero, suc, ◌+◌, ◌<◌, ◌≤◌, ◌^◌, Bool, true, false, cond, ◌==◌, List, [], ◌∷◌, ◌++◌, length, get_or, drop, refl, sym, ap, subst, ◌∙◌, arith, append_assoc, append-nil, Option, Some, None, codes, ℤ, lit<}
+use Rattle.std.proofs.Common.{◌≡◌, ℕ, zero, suc, ◌<◌, ◌≤◌, ◌^◌, true, false, cond, List, [], ◌∷◌, ◌++◌, length, get_or, drop, refl, sym, ap, subst, ◌∙◌, arith, append-nil, Some, codes, lit<}
 use Rattle.std.specs.List.{All, flat_map}
 use Rattle.std.specs.Fmt.{decimal, signed_decimal}
 use Rattle.std.proofs.lemmas.Fmt.{decimal_digit, decimal_nonempty, first_decimal}
 use Rattle.std.proofs.lemmas.Bool.Decides.{nat_tests}
 use Rattle.std.proofs.lemmas.List.Elements.{All-nil}
 use Rattle.text_fields.specs.Spelling.{EndsNumber, IsCertificate, IsList, listed, is_next}
-use Rattle.text_fields.specs.Reading.{◌>>=◌, word_at, number_at, certificate_at, list_at}
+use Rattle.text_fields.specs.Reading.{word_at, number_at, certificate_at, list_at}
 use Rattle.text_fields.specs.Laws.{IsField}
 use Rattle.text_fields.proofs.NumberLaws.{numbers_field, certificates_field, bind_some, some_is}
 use Rattle.text_fields.proofs.ListLaws.{list_field}
@@ -16,7 +16,7 @@ use Rattle.farkas_check.specs.declared.cites.Cite.{Cite}
 use Rattle.farkas_check.specs.declared.combination.Combination.{Combination}
 use Rattle.result_file.specs.declared.eliminations.Elimination.{Elimination}
 use Rattle.result_file.specs.Texts.{ranking_text, cite_text, cites_text, combination_text, elimination_line}
-use Rattle.result_file.specs.Reading.{at_end, exactly, ranking_at, weights_at, cite_at, cites_at, combination_at, elimination_at}
+use Rattle.result_file.specs.Reading.{ranking_at, weights_at, cite_at, cites_at, combination_at, elimination_at}
 use Rattle.result_file.proofs.LineLaws.{IsExactly, IsPair, EndsSide, exactly_field, ranking_field, at_end_some, regroup3, regroup4, regroup5, regroup6, joined3, joined5, joined6}
 
 -- ---- cites
@@ -30,18 +30,18 @@ pub cite_field : IsField cite_at cite_text IsReadCite EndsNumber
 unfolding cite_at
 cite_field = record {
   takes = λ text cite rest e.
-    let a = bind_some (number_at 131072 text) _ (cite, rest) e in
-    let c = bind_some (word_at (codes ":") a.0.1) _ (cite, rest) a.2 in
-    let w = bind_some (certificate_at c.0.1) _ (cite, rest) c.2 in
-    let answer = (numbers_field 131072 (lit< tt)).takes text a.0.0 a.0.1 a.1 in
-    let colon = (word_field (codes ":")).takes a.0.1 c.0.0 c.0.1 c.1 in
-    let weight = certificates_field.takes c.0.1 w.0.0 w.0.1 w.1 in
-    subst (λ (found : Cite × List ℕ). (text ≡ cite_text found.0 ++ found.1) × IsReadCite found.0) (some_is _ _ w.2)
+      let a = bind_some (number_at 131072 text) _ (cite, rest) e in
+      let c = bind_some (word_at (codes ":") a.0.1) _ (cite, rest) a.2 in
+      let w = bind_some (certificate_at c.0.1) _ (cite, rest) c.2 in
+      let answer = (numbers_field 131072 (lit< tt)).takes text a.0.0 a.0.1 a.1 in
+      let colon = (word_field (codes ":")).takes a.0.1 c.0.0 c.0.1 c.1 in
+      let weight = certificates_field.takes c.0.1 w.0.0 w.0.1 w.1 in
+      subst (λ (found : Cite × List ℕ). (text ≡ cite_text found.0 ++ found.1) × IsReadCite found.0) (some_is _ _ w.2)
       (joined3 text (decimal a.0.0) (codes ":") (signed_decimal w.0.0) a.0.1 c.0.1 w.0.1 answer.0 colon.0 weight.0, record { number = answer.1; weight = weight.1 });
   again = λ cite rest h ends.
-    let answer = (numbers_field 131072 (lit< tt)).again cite.answer (codes ":" ++ (signed_decimal cite.weight ++ rest)) h.number refl in
-    let weight = certificates_field.again cite.weight rest h.weight ends in
-    ap cite_at (sym (regroup3 (decimal cite.answer) (codes ":") (signed_decimal cite.weight) rest)) ∙ rw (answer, weight) refl;
+      let answer = (numbers_field 131072 (lit< tt)).again cite.answer (codes ":" ++ (signed_decimal cite.weight ++ rest)) h.number refl in
+      let weight = certificates_field.again cite.weight rest h.weight ends in
+      ap cite_at (sym (regroup3 (decimal cite.answer) (codes ":") (signed_decimal cite.weight) rest)) ∙ rw (answer, weight) refl;
 }
 
 -- a list of cites as it is read
@@ -63,7 +63,7 @@ no_minus cite cites rest h =
     let lt : cite.answer < 2 ^ 64 = omega (arith, h.number) in
     let others : List ℕ = flat_map (λ (y : Cite). 0x2C ∷ cite_text y) cites in
     let e : listed cite_text (cite ∷ cites) ++ rest ≡ decimal cite.answer ++ (codes ":" ++ (signed_decimal cite.weight ++ (others ++ rest))) =
-        sym (regroup4 (decimal cite.answer) (codes ":") (signed_decimal cite.weight) others rest) in
+    sym (regroup4 (decimal cite.answer) (codes ":") (signed_decimal cite.weight) others rest) in
     ap (is_next 45) e ∙ no_minus_in (decimal cite.answer) _ (decimal_nonempty cite.answer lt) (first_digit cite.answer lt)
 
 starts_minus : (text : List ℕ) → is_next 45 text ≡ true → text ≡ 45 ∷ drop 1 text
@@ -87,8 +87,8 @@ cites_takes text found e =
     elim (is_next 45 text) as (λ v. is_next 45 text ≡ v → cond v (Some ([], drop 1 text)) (list_at cite_at 24 text) ≡ Some found → AreCitesAt text found) [
       | true ↦ λ minus e'. subst (AreCitesAt text) (some_is _ _ e') (starts_minus text minus, record { most = omega arith; each = All-nil IsReadCite })
       | false ↦ λ _ e'.
-        let t = cite_lists.takes text found.0 found.1 e' in
-        (t.0 ∙ ap (λ (front : List ℕ). front ++ found.1) (sym (some_cites found.0 t.1.some)), record { most = t.1.most; each = t.1.each })
+          let t = cite_lists.takes text found.0 found.1 e' in
+          (t.0 ∙ ap (λ (front : List ℕ). front ++ found.1) (sym (some_cites found.0 t.1.some)), record { most = t.1.most; each = t.1.each })
     ] refl e
 
 cites_again : (cites : List Cite) (rest : List ℕ) → AreReadCites cites → EndsSide rest → cites_at (cites_text cites ++ rest) ≡ Some (cites, rest)
@@ -122,24 +122,25 @@ combination_field : (increments : ℕ) → 1 ≤ increments → increments ≤ 2
 unfolding combination_at
 combination_field increments low high = record {
   takes = λ text combination rest e.
-    let s = bind_some (certificate_at text) _ (combination, rest) e in
-    let b = bind_some (word_at (codes " ") s.0.1) _ (combination, rest) s.2 in
-    let w = bind_some (weights_at increments b.0.1) _ (combination, rest) b.2 in
-    let b' = bind_some (word_at (codes " ") w.0.1) _ (combination, rest) w.2 in
-    let c = bind_some (cites_at b'.0.1) _ (combination, rest) b'.2 in
-    let scale = certificates_field.takes text s.0.0 s.0.1 s.1 in
-    let blank = (word_field (codes " ")).takes s.0.1 b.0.0 b.0.1 b.1 in
-    let weights = (weights_field increments low high).takes b.0.1 w.0.0 w.0.1 w.1 in
-    let second = (word_field (codes " ")).takes w.0.1 b'.0.0 b'.0.1 b'.1 in
-    let cites = cites_field.takes b'.0.1 c.0.0 c.0.1 c.1 in
-    subst (λ (found : Combination × List ℕ). (text ≡ combination_text found.0 ++ found.1) × IsReadCombination increments found.0) (some_is _ _ c.2)
-      (joined5 text (signed_decimal s.0.0) (codes " ") (listed signed_decimal w.0.0) (codes " ") (cites_text c.0.0) s.0.1 b.0.1 w.0.1 b'.0.1 c.0.1 scale.0 blank.0 weights.0 second.0 cites.0,
-       record { scale = scale.1; weights = weights.1; cites = cites.1 });
+      let s = bind_some (certificate_at text) _ (combination, rest) e in
+      let b = bind_some (word_at (codes " ") s.0.1) _ (combination, rest) s.2 in
+      let w = bind_some (weights_at increments b.0.1) _ (combination, rest) b.2 in
+      let b' = bind_some (word_at (codes " ") w.0.1) _ (combination, rest) w.2 in
+      let c = bind_some (cites_at b'.0.1) _ (combination, rest) b'.2 in
+      let scale = certificates_field.takes text s.0.0 s.0.1 s.1 in
+      let blank = (word_field (codes " ")).takes s.0.1 b.0.0 b.0.1 b.1 in
+      let weights = (weights_field increments low high).takes b.0.1 w.0.0 w.0.1 w.1 in
+      let second = (word_field (codes " ")).takes w.0.1 b'.0.0 b'.0.1 b'.1 in
+      let cites = cites_field.takes b'.0.1 c.0.0 c.0.1 c.1 in
+      subst (λ (found : Combination × List ℕ). (text ≡ combination_text found.0 ++ found.1) × IsReadCombination increments found.0) (some_is _ _ c.2) (
+        joined5 text (signed_decimal s.0.0) (codes " ") (listed signed_decimal w.0.0) (codes " ") (cites_text c.0.0) s.0.1 b.0.1 w.0.1 b'.0.1 c.0.1 scale.0 blank.0 weights.0 second.0 cites.0,
+        record { scale = scale.1; weights = weights.1; cites = cites.1 },
+      );
   again = λ combination rest h ends.
-    let scale = certificates_field.again combination.scale (codes " " ++ (listed signed_decimal combination.increments ++ (codes " " ++ (cites_text combination.answers ++ rest)))) h.scale refl in
-    let weights = (weights_field increments low high).again combination.increments (codes " " ++ (cites_text combination.answers ++ rest)) h.weights (refl, refl) in
-    let cites = cites_field.again combination.answers rest h.cites ends in
-    ap (combination_at increments) (sym (regroup5 (signed_decimal combination.scale) (codes " ") (listed signed_decimal combination.increments) (codes " ") (cites_text combination.answers) rest)) ∙ rw (scale, weights, cites) refl;
+      let scale = certificates_field.again combination.scale (codes " " ++ (listed signed_decimal combination.increments ++ (codes " " ++ (cites_text combination.answers ++ rest)))) h.scale refl in
+      let weights = (weights_field increments low high).again combination.increments (codes " " ++ (cites_text combination.answers ++ rest)) h.weights (refl, refl) in
+      let cites = cites_field.again combination.answers rest h.cites ends in
+      ap (combination_at increments) (sym (regroup5 (signed_decimal combination.scale) (codes " ") (listed signed_decimal combination.increments) (codes " ") (cites_text combination.answers) rest)) ∙ rw (scale, weights, cites) refl;
 }
 
 -- ---- eliminate lines
@@ -173,7 +174,7 @@ elimination_takes criteria increments line elimination low high low' high' e =
     let whole = joined6 line (codes "eliminate ") (decimal n.0.0) (codes " ") (ranking_text r.0.0) (codes " ") (combination_text c.0.0) w.0.1 n.0.1 b.0.1 r.0.1 b'.0.1 c.0.1 word.0 worker.0 blank.0 ranking.0 second.0 combination.0 in
     let line_is : line ≡ elimination_line found = whole ∙ rw end.0 (append-nil _) in
     subst (λ (x : Elimination). (line ≡ elimination_line x) × IsReadElimination criteria increments x) end.1
-      (line_is, record { worker = worker.1; pair = ranking.1; combination = combination.1 })
+    (line_is, record { worker = worker.1; pair = ranking.1; combination = combination.1 })
 
 pub elimination_again : (criteria increments : ℕ) (elimination : Elimination) → 1 ≤ criteria → criteria ≤ 24 → 1 ≤ increments → increments ≤ 24 → IsReadElimination criteria increments elimination → elimination_at criteria increments (elimination_line elimination) ≡ Some elimination
 unfolding elimination_at

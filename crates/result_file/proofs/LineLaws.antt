@@ -3,7 +3,7 @@ use Rattle.std.proofs.Common.{◌≡◌, ℕ, suc, ◌+◌, ◌<◌, ◌≤◌, 
 use Rattle.std.specs.List.{All, flat_map}
 use Rattle.std.specs.Fmt.{decimal, signed_decimal}
 use Rattle.text_fields.specs.Spelling.{EndsNumber, IsCertificate, IsList, is_next, listed}
-use Rattle.text_fields.specs.Reading.{◌>>=◌, certificate_at, list_at, number_at, word_at}
+use Rattle.text_fields.specs.Reading.{certificate_at, list_at, number_at, word_at}
 use Rattle.text_fields.specs.Laws.{IsField}
 use Rattle.text_fields.proofs.NumberLaws.{numbers_field, certificates_field, bind_some, some_is}
 use Rattle.text_fields.proofs.ListLaws.{list_field}
@@ -81,15 +81,15 @@ exactly_field {X} item spell P field count low high =
     let lists = list_field item spell P EndsNumber field (λ _. refl) 24 in
     record {
       takes = λ text xs rest e.
-        let b = bind_some (list_at item 24 text) (λ found. cond (length found.0 == count) (Some found) None) (xs, rest) e in
-        let c = cond_some (length b.0.0 == count) b.0 (xs, rest) b.2 in
-        let t = lists.takes text b.0.0 b.0.1 b.1 in
-        let len : length b.0.0 ≡ count = grind (arith, nat_tests) in
-        subst (λ (found : List X × List ℕ). (text ≡ listed spell found.0 ++ found.1) × IsExactly P count found.0) c.1 (t.0, record { len = len; each = t.1.each });
+          let b = bind_some (list_at item 24 text) (λ found. cond (length found.0 == count) (Some found) None) (xs, rest) e in
+          let c = cond_some (length b.0.0 == count) b.0 (xs, rest) b.2 in
+          let t = lists.takes text b.0.0 b.0.1 b.1 in
+          let len : length b.0.0 ≡ count = grind (arith, nat_tests) in
+          subst (λ (found : List X × List ℕ). (text ≡ listed spell found.0 ++ found.1) × IsExactly P count found.0) c.1 (t.0, record { len = len; each = t.1.each });
       again = λ xs rest h ends.
-        let again = lists.again xs rest (record { some = omega (arith, h.len); most = omega (arith, h.len); each = h.each }) ends in
-        let same : (length xs == count) ≡ true = let len = h.len in grind (arith, nat_tests) in
-        rw (again, same) refl;
+          let again = lists.again xs rest (record { some = omega (arith, h.len); most = omega (arith, h.len); each = h.each }) ends in
+          let same : (length xs == count) ≡ true = let len = h.len in grind (arith, nat_tests) in
+          rw (again, same) refl;
     }
 
 pub vector_of_list : (text : List ℕ) (items : List ℤ) (rest : List ℕ) → list_at certificate_at 24 text ≡ Some (items, rest) → IsVector items
@@ -111,20 +111,20 @@ pair_field : (criteria : ℕ) → 1 ≤ criteria → criteria ≤ 24 → IsField
 unfolding pair_at
 pair_field criteria low high = record {
   takes = λ text pair rest e.
-    let side = tuple_field criteria low high in
-    let b = bind_some (tuple_at criteria text) _ (pair, rest) e in
-    let w = bind_some (word_at (codes "/") b.0.1) _ (pair, rest) b.2 in
-    let r = bind_some (tuple_at criteria w.0.1) _ (pair, rest) w.2 in
-    let left = side.takes text b.0.0 b.0.1 b.1 in
-    let slash = (word_field (codes "/")).takes b.0.1 w.0.0 w.0.1 w.1 in
-    let right = side.takes w.0.1 r.0.0 r.0.1 r.1 in
-    subst (λ (found : Pair × List ℕ). (text ≡ pair_text found.0 ++ found.1) × IsPair criteria found.0) (some_is _ _ r.2)
+      let side = tuple_field criteria low high in
+      let b = bind_some (tuple_at criteria text) _ (pair, rest) e in
+      let w = bind_some (word_at (codes "/") b.0.1) _ (pair, rest) b.2 in
+      let r = bind_some (tuple_at criteria w.0.1) _ (pair, rest) w.2 in
+      let left = side.takes text b.0.0 b.0.1 b.1 in
+      let slash = (word_field (codes "/")).takes b.0.1 w.0.0 w.0.1 w.1 in
+      let right = side.takes w.0.1 r.0.0 r.0.1 r.1 in
+      subst (λ (found : Pair × List ℕ). (text ≡ pair_text found.0 ++ found.1) × IsPair criteria found.0) (some_is _ _ r.2)
       (joined3 text (listed decimal b.0.0) (codes "/") (listed decimal r.0.0) b.0.1 w.0.1 r.0.1 left.0 slash.0 right.0, record { left = left.1; right = right.1 });
   again = λ pair rest h ends.
-    let side = tuple_field criteria low high in
-    let first = side.again pair.left (codes "/" ++ (listed decimal pair.right ++ rest)) h.left (refl, refl) in
-    let second = side.again pair.right rest h.right ends in
-    ap (pair_at criteria) (sym (regroup3 (listed decimal pair.left) (codes "/") (listed decimal pair.right) rest)) ∙ rw (first, second) refl;
+      let side = tuple_field criteria low high in
+      let first = side.again pair.left (codes "/" ++ (listed decimal pair.right ++ rest)) h.left (refl, refl) in
+      let second = side.again pair.right rest h.right ends in
+      ap (pair_at criteria) (sym (regroup3 (listed decimal pair.left) (codes "/") (listed decimal pair.right) rest)) ∙ rw (first, second) refl;
 }
 
 -- ---- a side
@@ -174,18 +174,18 @@ pub ranking_field : (criteria : ℕ) → 1 ≤ criteria → criteria ≤ 24 → 
 unfolding ranking_at
 ranking_field criteria low high = record {
   takes = λ text ranking rest e.
-    let p = bind_some (pair_at criteria text) _ (ranking, rest) e in
-    let b = bind_some (word_at (codes " ") p.0.1) _ (ranking, rest) p.2 in
-    let s = bind_some (side_at b.0.1) _ (ranking, rest) b.2 in
-    let pair = (pair_field criteria low high).takes text p.0.0 p.0.1 p.1 in
-    let blank = (word_field (codes " ")).takes p.0.1 b.0.0 b.0.1 b.1 in
-    let side = side_field.takes b.0.1 s.0.0 s.0.1 s.1 in
-    subst (λ (found : Answer × List ℕ). (text ≡ ranking_text found.0 ++ found.1) × IsPair criteria found.0.pair) (some_is _ _ s.2)
+      let p = bind_some (pair_at criteria text) _ (ranking, rest) e in
+      let b = bind_some (word_at (codes " ") p.0.1) _ (ranking, rest) p.2 in
+      let s = bind_some (side_at b.0.1) _ (ranking, rest) b.2 in
+      let pair = (pair_field criteria low high).takes text p.0.0 p.0.1 p.1 in
+      let blank = (word_field (codes " ")).takes p.0.1 b.0.0 b.0.1 b.1 in
+      let side = side_field.takes b.0.1 s.0.0 s.0.1 s.1 in
+      subst (λ (found : Answer × List ℕ). (text ≡ ranking_text found.0 ++ found.1) × IsPair criteria found.0.pair) (some_is _ _ s.2)
       (joined3 text (pair_text p.0.0) (codes " ") (side_text s.0.0) p.0.1 b.0.1 s.0.1 pair.0 blank.0 side.0, pair.1);
   again = λ ranking rest h ends.
-    let first = (pair_field criteria low high).again ranking.pair (codes " " ++ (side_text ranking.side ++ rest)) h (refl, refl) in
-    let second = side_field.again ranking.side rest tt tt in
-    ap (ranking_at criteria) (sym (regroup3 (pair_text ranking.pair) (codes " ") (side_text ranking.side) rest)) ∙ rw (first, second) refl;
+      let first = (pair_field criteria low high).again ranking.pair (codes " " ++ (side_text ranking.side ++ rest)) h (refl, refl) in
+      let second = side_field.again ranking.side rest tt tt in
+      ap (ranking_at criteria) (sym (regroup3 (pair_text ranking.pair) (codes " ") (side_text ranking.side) rest)) ∙ rw (first, second) refl;
 }
 
 pub answer_takes : (criteria : ℕ) (line : List ℕ) (answer : Answer) → 1 ≤ criteria → criteria ≤ 24 → answer_at criteria line ≡ Some answer → (line ≡ answer_line answer) × IsPair criteria answer.pair

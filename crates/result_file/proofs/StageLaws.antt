@@ -1,6 +1,5 @@
 -- What one more line does to a stage.
-use Rattle.std.proofs.Common.{◌≡◌, ◌≢◌, ℕ, suc, ◌+◌, ◌-◌, ◌<◌, ◌≤◌, List, [], ◌∷◌, ◌++◌, length, take, refl, sym, ap, subst, ◌∙◌, arith, length-append, Some, None, ◌⊎◌, inl, inr}
-use Rattle.std.specs.List.{All}
+use Rattle.std.proofs.Common.{◌≡◌, ◌≢◌, ℕ, ◌≤◌, List, [], ◌∷◌, ◌++◌, length, take, refl, ap, subst, Some, None, ◌⊎◌, inl, inr}
 use Rattle.std.proofs.lemmas.List.{map_push}
 use Rattle.criteria_model.specs.Criteria.{Criteria, IsModel}
 use Rattle.criteria_model.specs.Faults.{model_fault}
@@ -8,11 +7,10 @@ use Rattle.criteria_model.specs.declared.faults.ModelFault.{ModelFault}
 use Rattle.result_file.specs.Claims.{Claim}
 use Rattle.result_file.specs.Kept.{KeptClaims, Keeps, Adds}
 use Rattle.result_file.specs.declared.places.Place.TheVariants as places
-use Rattle.result_file.specs.declared.verdicts.Part.{Part}
 use Rattle.result_file.specs.declared.verdicts.Part.TheVariants.{Form, Model}
 use Rattle.result_file.specs.Texts.{claim_line, model_line, end_line}
 use Rattle.result_file.specs.Reading.{model_at}
-use Rattle.result_file.specs.Checked.{HasModelForm, IsRight, AreClaims, Stage, blank, headed, begun, ended, Says, Fails}
+use Rattle.result_file.specs.Checked.{IsRight, AreClaims, Stage, blank, headed, begun, ended, Says, Fails}
 use Rattle.result_file.specs.declared.stops.Stop.{Stop}
 use Rattle.result_file.specs.Stops.{StopsAt}
 use Rattle.result_file.specs.Places.{StandsFor, GoesOn}

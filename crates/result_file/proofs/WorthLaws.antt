@@ -1,5 +1,5 @@
 -- What a valid file is worth.
-use Rattle.std.proofs.Common.{◌≡◌, ℕ, List, [], ◌++◌, append-nil, subst}
+use Rattle.std.proofs.Common.{ℕ, List, [], append-nil, subst}
 use Rattle.std.specs.Prelude.{Option, Some, None, IfSome}
 use Rattle.criteria_model.specs.declared.pairs.Answer.{Answer}
 use Rattle.criteria_model.specs.Criteria.{Criteria}
@@ -14,7 +14,7 @@ use Rattle.result_file.specs.Checked.{AreClaims, EliminatedAreRanked, IsWorth}
 ranked : (criteria : Criteria) (claims : List Claim) → AreClaims criteria claims → EliminatedAreRanked criteria claims
 ranked criteria claims h before e after is =
     subst (λ (answers : List Answer). IsRanked criteria.levels answers e.pair e.verdict) (append-nil (answers_of before))
-      (proved_is_ranked_lem criteria.levels (answers_of before) [] e.combination e.pair e.verdict (h.each before (eliminated e) after is).proof)
+    (proved_is_ranked_lem criteria.levels (answers_of before) [] e.combination e.pair e.verdict (h.each before (eliminated e) after is).proof)
 
 -- every text is worth its verdict
 pub worth : (text : List ℕ) (verdict : Checked) → IsWorth text verdict

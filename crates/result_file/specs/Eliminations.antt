@@ -1,6 +1,5 @@
 -- What the reader of eliminate lines answers.
 use Rattle.std.specs.Prelude.{◌≡◌, Option, Some, None}
-use Rattle.text_fields.specs.Spelling.{IsCertificate}
 use Rattle.farkas_check.specs.Cited.{AreCites}
 use Rattle.result_file.specs.declared.eliminations.Elimination.{Elimination}
 

@@ -1,5 +1,5 @@
 -- The place in a file that a reader keeps, and the stage that it stands for.
-use Rattle.std.specs.Prelude.{◌≡◌, ◌≢◌, ◌⊎◌, ℕ, ◌+◌, ◌<◌, List, [], ◌∷◌, ◌++◌, length, All, Option, IfSome}
+use Rattle.std.specs.Prelude.{◌≡◌, ◌≢◌, ◌⊎◌, ℕ, ◌+◌, List, [], ◌∷◌, ◌++◌, length, All, Option, IfSome}
 use Rattle.edges.specs.Line.{HasNoLineEnd, unlines}
 use Rattle.edges.specs.Told.{Takes}
 use Rattle.result_file.specs.declared.places.Place.{Place}

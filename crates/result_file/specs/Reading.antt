@@ -1,5 +1,5 @@
 -- What a line reads as: the numbers or the claim that it spells, or none.
-use Rattle.std.specs.Prelude.{◌≡◌, ℕ, ◌==◌, List, [], ◌∷◌, length, drop, codes, Option, Some, None, if◌then◌else◌, ℤ}
+use Rattle.std.specs.Prelude.{ℕ, ◌==◌, List, [], ◌∷◌, length, drop, codes, Option, Some, None, if◌then◌else◌, ℤ}
 use Rattle.text_fields.specs.Spelling.{is_next}
 use Rattle.text_fields.specs.Reading.{◌>>=◌, word_at, number_at, certificate_at, list_at}
 use Rattle.criteria_model.specs.declared.pairs.Pair.{Pair}

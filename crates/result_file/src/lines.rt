@@ -161,7 +161,7 @@ pub(crate) fn combination(
     ensures exact { MatchOption result
         (combination_at increments fields.old ≡ None)
         (λ found. combination_at increments fields.old
-            ≡ Some (record { scale = found.0; increments = found.1; answers = take found.2 cells.new }, fields.new)) }
+        ≡ Some (record { scale = found.0; increments = found.1; answers = take found.2 cells.new }, fields.new)) }
     ensures within { IfSome result (λ found. found.2 ≤ 24) }
     ensures scale { IfSome result (λ found. IsCertificate found.0) }
 {

@@ -1,4 +1,4 @@
-use Rattle.std.proofs.Common.{◌≡◌, ◌≢◌, rules}
+use Rattle.std.proofs.Common.{◌≢◌, rules}
 use Rattle.std.proofs.lemmas.Result.{err_from_is_err_and}
 use Rattle.result_file.specs.Texts.{end_line}
 use Rattle.result_file.proofs.StageLaws.{adds, ends, stops_begun}

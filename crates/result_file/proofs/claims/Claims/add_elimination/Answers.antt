@@ -1,4 +1,4 @@
-use Rattle.std.proofs.Common.{◌≡◌, ℕ, ◌+◌, Some, subst, ap}
+use Rattle.std.proofs.Common.{◌+◌, Some, subst, ap}
 use Rattle.farkas_check.specs.Flaws.{IsFirstFlaw}
 use Rattle.farkas_check.specs.Proof.{Proves}
 use Rattle.result_file.specs.Claims.{eliminated}
