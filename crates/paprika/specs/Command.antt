@@ -1,5 +1,5 @@
 -- What a command writes, and the status that it ends with.
-use Rattle.std.specs.Prelude.{◌≡◌, ◌⊎◌, ℕ, List, [], ◌∷◌, ◌++◌, map, codes, Option, String}
+use Rattle.std.specs.Prelude.{◌≡◌, ◌⊎◌, ℕ, List, [], ◌∷◌, ◌++◌, map, codes, Option, String, IfSome}
 use Rattle.std.specs.Fmt.{decimal}
 use Rattle.std.specs.String.{string_bytes}
 use Rattle.std.specs.declared.alloc.Global.{Global}
@@ -10,6 +10,7 @@ use Rattle.result_file.specs.declared.verdicts.Checked.TheVariants.{Valid, Valid
 use Rattle.result_file.specs.Words.{part_text}
 use Rattle.result_file.specs.Verdicts.{CountsFault, EndsInput}
 use Rattle.result_file.specs.Places.{IsToldChecked}
+use Rattle.result_file.specs.Checked.{IsValid, EliminatedAreRanked, IsWorth}
 
 -- the words are the one word `check`
 abbrev pub IsCheck : List (String Global) → Type 0
@@ -63,6 +64,7 @@ Answers NoMemory before now status = IsSilent 5 before now status
 pub record ChecksFile (source source_now : SourceState) (sink sink_now : SinkState) (status : ℕ) : Type 0 where
   pub verdict : Checked
   pub checked : IsToldChecked source.left verdict
+  pub worth : IfSome source.left (λ text. IsWorth text verdict)
   pub faults : CountsFault verdict source.faults source_now.faults
   pub ended : EndsInput verdict source_now.left
   pub answered : Answers verdict sink sink_now status
@@ -70,3 +72,7 @@ pub record ChecksFile (source source_now : SourceState) (sink sink_now : SinkSta
 -- the usage line was written with status 2, or there was no memory for it
 abbrev pub ShowsUsage : SinkState → SinkState → ℕ → Type 0
 ShowsUsage before now status = Writes usage_line 2 before now status ⊎ IsSilent 5 before now status
+
+-- where it is told, the text is a valid file, and each pair that its lines eliminate is ranked so
+abbrev pub IsProved : Option (List ℕ) → Type 0
+IsProved told = IfSome told (λ text. (valid : IsValid text) × EliminatedAreRanked valid.criteria valid.claims)

@@ -1,6 +1,6 @@
 ghost use Rattle.std.specs.Prelude.{◌≡◌, ◌↔◌, ◌+◌, ◌≤◌, [], ◌++◌, length, codes, IsTrue};
 ghost use Rattle.std.specs.Fmt.{decimal};
-ghost use Rattle.paprika.specs.Command.{IsCheck, usage_line, verdict_line, Writes, Answers, ChecksFile, ShowsUsage};
+ghost use Rattle.paprika.specs.Command.{IsCheck, usage_line, verdict_line, Writes, Answers, ChecksFile, IsProved, ShowsUsage};
 
 use edges::{Sink, Source, Text};
 use itoa::Buffer;
@@ -33,6 +33,23 @@ pub fn plain_command<S: Source, K: Sink>(
     source: &mut S,
     sink: &mut K,
 ) -> u8
+    ensures check { IsCheck words.now → ChecksFile
+        (record { left = S.left source.old; faults = S.faults source.old })
+        (record { left = S.left source.new; faults = S.faults source.new })
+        (record { written = K.written sink.old; faults = K.faults sink.old })
+        (record { written = K.written sink.new; faults = K.faults sink.new }) result }
+
+    // Status 0 says that each value vector that meets the answers above an eliminated pair ranks it so.
+    ensures proved { IsCheck words.now → result ≡ 0 → IsProved (S.left source.old) }
+    ensures usage { (¬ IsCheck words.now) → ShowsUsage
+        (record { written = K.written sink.old; faults = K.faults sink.old })
+        (record { written = K.written sink.new; faults = K.faults sink.new }) result }
+{
+    run(alloc, words, source, sink)
+}
+
+/// Does what the words say, and returns the status.
+fn run<S: Source, K: Sink>(alloc: Global, words: &[String], source: &mut S, sink: &mut K) -> u8
     ensures check { IsCheck words.now → ChecksFile
         (record { left = S.left source.old; faults = S.faults source.old })
         (record { left = S.left source.new; faults = S.faults source.new })

@@ -36,7 +36,7 @@ const AFTER_MODEL: [(&[u8], &[u8]); 24] = [
 ];
 
 /// Whole files, with what `check` writes of them.
-const WHOLE: [(&[u8], &[u8]); 17] = [
+const WHOLE: [(&[u8], &[u8]); 21] = [
     (b"", b"unfinished 1\n"),
     (b"end", b"unfinished 1\n"),
     (b"end\n", b"invalid 1 form\n"),
@@ -72,7 +72,90 @@ const WHOLE: [(&[u8], &[u8]); 17] = [
     ),
     (b"paprika claims 1\nmodel  degree 1\n", b"invalid 2 form\n"),
     (b"paprika claims 1\nmodel 25 degree 1\nend", b"valid\n"),
+    (
+        b"paprika claims 1\nmodel 2,2,2 degree 3\nanswer 2,1,0/1,2,0 left\nanswer 0,2,1/0,1,2 left\neliminate 1 2,0,1/1,0,2 left 1 0,0,0 1:1,2:1\n",
+        b"unfinished 6\n",
+    ),
+    // Of equal answers any weight counts, and none makes a verdict left or right.
+    (
+        b"paprika claims 1\nmodel 2,2,2 degree 3\nanswer 2,1,0/1,2,0 equal\nanswer 2,0,1/1,0,2 equal\neliminate 1 0,2,1/0,1,2 left 1 0,0,0 1:-1,2:1\nend\n",
+        b"invalid 5 strict\n",
+    ),
+    (
+        b"paprika claims 1\nmodel 2,2,2 degree 3\nanswer 2,1,0/1,2,0 equal\nanswer 2,0,1/1,0,2 equal\neliminate 1 0,2,1/0,1,2 equal 1 0,0,0 1:-1,2:1\nend\n",
+        b"valid\n",
+    ),
+    // An answer on a later line isn't there yet.
+    (
+        b"paprika claims 1\nmodel 2,2,2 degree 3\nanswer 2,1,0/1,2,0 left\neliminate 1 2,0,1/1,0,2 left 1 0,0,0 1:1,2:1\nanswer 0,2,1/0,1,2 left\nend\n",
+        b"invalid 4 cite\n",
+    ),
 ];
+
+/// Fifth lines after `ANSWERS`, with what `check` writes of the file that ends behind them.
+const ELIMINATIONS: [(&[u8], &[u8]); 30] = [
+    (b"1 2,0,1/1,0,2 left 1 0,0,0 1:1,2:1", b"valid\n"),
+    (b"0 2,0,1/1,0,2 left 2 0,0,0 1:2,2:2", b"valid\n"),
+    (
+        b"16 2,0,1/1,0,2 left 79228162514264337593543950335 0,0,0 1:79228162514264337593543950335,2:79228162514264337593543950335",
+        b"valid\n",
+    ),
+    (
+        b"1 2,0,1/1,0,2 left 1 0,0,0 1:1,2:-1",
+        b"invalid 5 weight\n",
+    ),
+    (b"1 2,0,1/1,0,2 left 0 0,0,0 -", b"invalid 5 scale\n"),
+    (b"1 2,0,1/1,0,2 left 1 0,0,0 -", b"invalid 5 sum\n"),
+    (b"1 2,0,1/1,0,2 right 1 0,0,0 1:1,2:1", b"invalid 5 sum\n"),
+    (b"1 2,0,1/1,0,2 left 1 0,0,1 1:1,2:1", b"invalid 5 sum\n"),
+    (
+        b"1 2,0,1/1,0,2 equal 1 0,0,0 1:1,2:1",
+        b"invalid 5 strict\n",
+    ),
+    (
+        b"1 2,0,1/1,0,2 left 1 0,0,-1 1:1,2:1",
+        b"invalid 5 increment\n",
+    ),
+    (
+        b"1 2,0,1/1,0,2 left -1 0,0,-1 1:1,3:1",
+        b"invalid 5 scale\n",
+    ),
+    (b"1 2,0,1/1,0,2 left 1 0,0,0 1:1,3:1", b"invalid 5 cite\n"),
+    (b"1 1,0,2/2,0,1 right 1 0,0,0 1:1,2:1", b"invalid 5 class\n"),
+    (b"17 2,0,1/1,0,2 left 1 0,0,0 1:1,2:1", b"invalid 5 form\n"),
+    (b"1 2,0,1/1,0,2 left 1 0,0 1:1,2:1", b"invalid 5 form\n"),
+    (b"1 2,0,1/1,0,2 left 1 0,0,0,0 1:1,2:1", b"invalid 5 form\n"),
+    (
+        b"1 2,0,1/1,0,2 left 79228162514264337593543950336 0,0,0 1:1,2:1",
+        b"invalid 5 form\n",
+    ),
+    (
+        b"1 2,0,1/1,0,2 left 1 0,0,0 1:79228162514264337593543950336,2:1",
+        b"invalid 5 form\n",
+    ),
+    (
+        b"1 2,0,1/1,0,2 left 1 0,0,-79228162514264337593543950336 1:1",
+        b"invalid 5 form\n",
+    ),
+    (b"1 2,0,1/1,0,2 left 1 0,0,-0 1:1,2:1", b"invalid 5 form\n"),
+    (b"1 2,0,1/1,0,2 left 1 0,0,0 1:-0,2:1", b"invalid 5 form\n"),
+    (b"1 2,0,1/1,0,2 left 1 0,0,0 1:0,2:1", b"invalid 5 form\n"),
+    (b"1 2,0,1/1,0,2 left 1 0,0,0 2:1,1:1", b"invalid 5 form\n"),
+    (b"1 2,0,1/1,0,2 left 1 0,0,0 1:1,1:1", b"invalid 5 form\n"),
+    (b"1 2,0,1/1,0,2 left 1 0,0,0 0:1,1:1", b"invalid 5 form\n"),
+    (b"1 2,0,1/1,0,2 left 1 0,0,0 131073:1", b"invalid 5 form\n"),
+    (b"1 2,0,1/1,0,2 left 1 0,0,0 1:1,2:1,", b"invalid 5 form\n"),
+    (b"1 2,0,1/1,0,2 left 1 0,0,0", b"invalid 5 form\n"),
+    (b"1 2,0,1/1,0,2 left +1 0,0,0 1:1,2:1", b"invalid 5 form\n"),
+    (
+        b"1 2,0,1/1,0,2 left 1 0,0,0 1:1,2:1,3:1,4:1,5:1,6:1,7:1,8:1,9:1,10:1,11:1,12:1,13:1,14:1,15:1,16:1,17:1,18:1,19:1,20:1,21:1,22:1,23:1,24:1,25:1",
+        b"invalid 5 form\n",
+    ),
+];
+
+/// The first four lines of a file, with two answers.
+const ANSWERS: &[u8] =
+    b"paprika claims 1\nmodel 2,2,2 degree 3\nanswer 2,1,0/1,2,0 left\nanswer 0,2,1/0,1,2 left\n";
 
 /// Checks a text that comes in pieces, and compares the status and what is written.
 fn expect_check(
@@ -103,6 +186,20 @@ fn broken_files_are_refused_by_line_and_part(rt: HostRuntime) -> Result<(), Fail
                 b"paprika claims 1\nmodel 2,2,2 degree 3\n",
             )?;
             text.extend_from_slice(rest)?;
+            expect_check(&rt, rt.alloc(), text.as_slice(), piece, want)?;
+        }
+    }
+    Ok(())
+}
+
+#[test]
+fn forged_eliminations_are_refused(rt: HostRuntime) -> Result<(), Fail> {
+    for piece in [1, 7, 4_096] {
+        for (line, want) in ELIMINATIONS {
+            let mut text = Vec::from_slice(rt.alloc(), ANSWERS)?;
+            text.extend_from_slice(b"eliminate ")?;
+            text.extend_from_slice(line)?;
+            text.extend_from_slice(b"\nend\n")?;
             expect_check(&rt, rt.alloc(), text.as_slice(), piece, want)?;
         }
     }

@@ -11,7 +11,7 @@ use Rattle.edges.proofs.LineLaws.{first_line-long, unlines-push}
 use Rattle.std.proofs.lemmas.Bool.{cases_lt}
 use Rattle.std.proofs.lemmas.List.{length-map}
 use Rattle.criteria_model.specs.Criteria.{Criteria}
-use Rattle.result_file.specs.declared.claims.Claim.{Claim}
+use Rattle.result_file.specs.Claims.{Claim}
 use Rattle.result_file.specs.declared.places.Place.{Place}
 use Rattle.result_file.specs.declared.places.Place.TheVariants as places
 use Rattle.result_file.specs.declared.verdicts.Part.{Part}
@@ -19,7 +19,7 @@ use Rattle.result_file.specs.declared.verdicts.Part.TheVariants.{Form}
 use Rattle.result_file.specs.declared.verdicts.Checked.{Checked}
 use Rattle.result_file.specs.declared.verdicts.Checked.TheVariants.{Valid, ValidComplete, Invalid, Unfinished, ReadFault, NoMemory}
 use Rattle.result_file.specs.Texts.{heading, end_line, model_line, claim_line}
-use Rattle.result_file.specs.Checked.{most_claims, Stage, Blank, Headed, Begun, Ended, AreClaims, Says, Fails, IsChecked, IsValid}
+use Rattle.result_file.specs.Checked.{most_claims, Stage, blank, headed, begun, ended, AreClaims, Says, Fails, IsChecked, IsValid}
 use Rattle.result_file.specs.Places.{StandsFor, GoesOn, EndsAs, HasCome, IsToldChecked}
 
 for_told : (text : Option (List ℕ)) (P : List ℕ → Type 0) → ((bytes : List ℕ) → text ≡ Some bytes → P bytes) → IfSome text P
@@ -75,26 +75,26 @@ line_come text before now number place next new h g goes =
 
 -- the last lines of a file, and a piece after them
 ends_valid : (bytes piece : List ℕ) (lines : List (List ℕ)) (stage : Stage) (number : ℕ) → bytes ≡ unlines lines ++ piece → Says lines stage → EndsAs stage piece number Valid → IsValid bytes
-ends_valid bytes piece lines Blank number whole says h = elim h [ inl begun ↦ absurd begun.0 | inr ended ↦ absurd ended.0 ]
-ends_valid bytes piece lines Headed number whole says h = elim h [ inl begun ↦ absurd begun.0 | inr ended ↦ absurd ended.0 ]
-ends_valid bytes piece lines (Begun criteria claims) number whole says h =
+ends_valid bytes piece lines blank number whole says h = elim h [ inl at ↦ absurd at.0 | inr at ↦ absurd at.0 ]
+ends_valid bytes piece lines headed number whole says h = elim h [ inl at ↦ absurd at.0 | inr at ↦ absurd at.0 ]
+ends_valid bytes piece lines (begun criteria claims) number whole says h =
     elim h [
-      | inl begun ↦ record {
+      | inl at ↦ record {
         criteria = criteria;
         claims = claims;
         right = says.0;
-        lines = inl (whole ∙ ap (λ (ls : List (List ℕ)). unlines ls ++ piece) says.1 ∙ ap (λ (p : List ℕ). unlines (heading ∷ model_line criteria ∷ map claim_line claims) ++ p) begun.1);
+        lines = inl (whole ∙ ap (λ (ls : List (List ℕ)). unlines ls ++ piece) says.1 ∙ ap (λ (p : List ℕ). unlines (heading ∷ model_line criteria ∷ map claim_line claims) ++ p) at.1);
       }
-      | inr ended ↦ absurd ended.0
+      | inr at ↦ absurd at.0
     ]
-ends_valid bytes piece lines (Ended criteria claims) number whole says h =
+ends_valid bytes piece lines (ended criteria claims) number whole says h =
     elim h [
-      | inl begun ↦ absurd begun.0
-      | inr ended ↦ record {
+      | inl at ↦ absurd at.0
+      | inr at ↦ record {
         criteria = criteria;
         claims = claims;
         right = says.0;
-        lines = inr (whole ∙ ap (λ (p : List ℕ). unlines lines ++ p) ended.1 ∙ append-nil (unlines lines) ∙ ap unlines says.1);
+        lines = inr (whole ∙ ap (λ (p : List ℕ). unlines lines ++ p) at.1 ∙ append-nil (unlines lines) ∙ ap unlines says.1);
       }
     ]
 
@@ -124,11 +124,11 @@ ends_checked NoMemory bytes piece lines stage number whole unbroken one short sa
 
 -- the end of the text, after a piece of a line
 piece_checked : (text before now : Option (List ℕ)) (number : ℕ) (place : Place) (piece : List ℕ) (verdict : Checked) → HasCome text before number place → before ≡ prepend_known piece now → IsAtEnd now → HasNoLineEnd piece → length piece ≤ 4096 → ((stage : Stage) → StandsFor place stage → EndsAs stage piece number verdict) → IsToldChecked text verdict
-piece_checked text before now number place piece verdict h told ended one short ends =
+piece_checked text before now number place piece verdict h told at_end one short ends =
     for_told text (λ bytes. IsChecked bytes verdict) (λ bytes is.
     let t = told_now text before (unlines h.lines) bytes h.told is in
     let u = told_now before now piece t.0 told t.1 in
-    let none : u.0 ≡ [] = subst (λ (left : Option (List ℕ)). IsAtEnd left) u.1 ended in
+    let none : u.0 ≡ [] = subst (λ (left : Option (List ℕ)). IsAtEnd left) u.1 at_end in
     let rest : t.0 ≡ piece = u.2 ∙ ap (λ (p : List ℕ). piece ++ p) none ∙ append-nil piece in
     ends_checked verdict bytes piece h.lines h.stage number (t.2 ∙ ap (λ (p : List ℕ). unlines h.lines ++ p) rest) h.unbroken one short h.says h.number (ends h.stage h.stands))
 
@@ -177,10 +177,10 @@ few_claims criteria claims h =
     ]
 
 few_lines : (lines : List (List ℕ)) (stage : Stage) → Says lines stage → length lines ≤ 131075
-few_lines lines Blank h = rw h (omega arith)
-few_lines lines Headed h = rw h (omega arith)
-few_lines lines (Begun criteria claims) h = rw h.1 (omega (arith, few_claims criteria claims h.0, length-map claims claim_line))
-few_lines lines (Ended criteria claims) h =
+few_lines lines blank h = rw h (omega arith)
+few_lines lines headed h = rw h (omega arith)
+few_lines lines (begun criteria claims) h = rw h.1 (omega (arith, few_claims criteria claims h.0, length-map claims claim_line))
+few_lines lines (ended criteria claims) h =
     rw h.1 (omega (arith, few_claims criteria claims h.0, length-map claims claim_line, length-append (heading ∷ model_line criteria ∷ map claim_line claims) (end_line ∷ [])))
 
 pub few_come : (text now : Option (List ℕ)) (number : ℕ) (place : Place) → HasCome text now number place → number ≤ 131076
@@ -190,7 +190,7 @@ few_come text now number place h = omega (arith, few_lines h.lines h.stage h.say
 pub none_come : (lines : LinesView) (left : Option (List ℕ)) → lines.kept ≡ [] → HasCome left (ahead lines left) 1 places.Blank
 none_come lines left none = record {
   lines = [];
-  stage = Blank;
+  stage = blank;
   unbroken = All-nil HasNoLineEnd;
   told = sym (prepend_known-nil (ahead lines left) ∙ rw none (prepend_known-nil left));
   says = refl;

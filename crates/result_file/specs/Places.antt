@@ -2,38 +2,22 @@
 use Rattle.std.specs.Prelude.{◌≡◌, ◌≢◌, ◌⊎◌, ℕ, ◌+◌, List, [], ◌∷◌, ◌++◌, length, All, Option, IfSome}
 use Rattle.edges.specs.Line.{HasNoLineEnd, unlines}
 use Rattle.edges.specs.Told.{Takes}
-use Rattle.criteria_model.specs.Criteria.{Criteria, IsModel}
-use Rattle.result_file.specs.declared.claims.Claim.{Claim}
-use Rattle.result_file.specs.declared.places.Claims.{Claims}
 use Rattle.result_file.specs.declared.places.Place.{Place}
 use Rattle.result_file.specs.declared.places.Place.TheVariants as places
 use Rattle.result_file.specs.declared.verdicts.Part.TheVariants.{Form}
 use Rattle.result_file.specs.declared.verdicts.Checked.{Checked}
 use Rattle.result_file.specs.declared.verdicts.Checked.TheVariants.{Valid, Invalid, Unfinished}
-use Rattle.result_file.specs.Texts.{claim_line, end_line}
-use Rattle.result_file.specs.Checked.{IsRight, Stage, Blank, Headed, Begun, Ended, Says, HasBegun, HasEnded, LeavesOpen, IsChecked}
-
--- the reader keeps the model, the number of its criteria, and how many claims came
-pub record Keeps (kept : Claims) (criteria : Criteria) (claims : List Claim) : Type 0 where
-  pub is_model : IsModel criteria
-  pub model : kept.model ≡ criteria
-  pub width : kept.criteria ≡ length criteria.levels
-  pub count : kept.count ≡ length claims
+use Rattle.result_file.specs.Texts.{end_line}
+use Rattle.result_file.specs.Kept.{Keeps}
+use Rattle.result_file.specs.Checked.{Stage, blank, headed, begun, ended, Says, HasBegun, HasEnded, LeavesOpen, IsChecked}
 
 -- the place stands for this stage
 abbrev pub StandsFor : Place → Stage → Type 0
-StandsFor places.Blank Blank = Unit {0}
-StandsFor places.Headed Headed = Unit {0}
-StandsFor (places.Begun kept) (Begun criteria claims) = Keeps kept criteria claims
-StandsFor places.Ended (Ended criteria claims) = Unit {0}
+StandsFor places.Blank blank = Unit {0}
+StandsFor places.Headed headed = Unit {0}
+StandsFor (places.Begun kept) (begun criteria claims) = Keeps kept criteria claims
+StandsFor places.Ended (ended criteria claims) = Unit {0}
 StandsFor _ _ = ⊥
-
--- the line is a claim that is right after these, and is kept
-pub record Adds (old new : Claims) (line : List ℕ) (criteria : Criteria) (claims : List Claim) : Type 0 where
-  pub claim : Claim
-  pub spelled : line ≡ claim_line claim
-  pub right : IsRight criteria claims claim
-  pub kept : Keeps new criteria (claims ++ claim ∷ [])
 
 -- the line takes each stage that the old place stands for to one that the new place stands for
 pub record GoesOn (lines : List (List ℕ)) (line : List ℕ) (place : Place) : Type 0 where

@@ -1,12 +1,14 @@
-ghost use Rattle.std.specs.Prelude.{◌≡◌, ℕ, ◌+◌, ◌<◌, ◌≤◌, List, [], Option, IfOk, IfErr, OnOk};
+ghost use Rattle.std.specs.Prelude.{◌≡◌, ℕ, ◌+◌, ◌<◌, ◌≤◌, List, [], Option, IfSome, IfOk, IfErr, OnOk};
 ghost use Rattle.edges.specs.Faults.{HasRisen};
 ghost use Rattle.edges.specs.Lines.{ahead};
 ghost use Rattle.edges.specs.Told.{IsAtEnd};
 ghost use Rattle.result_file.specs.Texts.{longest_line};
+ghost use Rattle.result_file.specs.Checked.{IsWorth};
 ghost use Rattle.result_file.specs.Places.{HasCome, IsToldChecked};
 ghost use Rattle.result_file.specs.Verdicts.{CountsFault, EndsInput};
 
 use crate::places::Place;
+use crate::stops::Stop;
 use crate::verdicts::{Checked, Part};
 use edges::{LineGot, Lines, Source};
 use std::alloc::Global;
@@ -17,17 +19,18 @@ const LONGEST_LINE: u32 = 4096;
 /// Checks the file that `source` holds.
 pub fn check_result<S: Source>(alloc: Global, source: &mut S) -> Checked
     ensures checked { IsToldChecked (S.left source.old) result }
+    ensures worth { IfSome (S.left source.old) (λ text. IsWorth text result) }
     ensures faults { CountsFault result (S.faults source.old) (S.faults source.new) }
     ensures ended { EndsInput result (S.left source.new) }
 {
     match Lines::reserve(alloc, LONGEST_LINE) {
-        Ok(lines) => check_lines(lines, source),
+        Ok(lines) => check_lines(alloc, lines, source),
         Err(_) => Checked::NoMemory,
     }
 }
 
 /// Checks the file that comes line by line.
-fn check_lines<S: Source>(lines: Lines, source: &mut S) -> Checked
+fn check_lines<S: Source>(alloc: Global, lines: Lines, source: &mut S) -> Checked
     requires longest { lines.longest ≡ longest_line }
     requires none_kept { lines.kept ≡ [] }
     ensures checked { IsToldChecked (S.left source.old) result }
@@ -38,7 +41,7 @@ fn check_lines<S: Source>(lines: Lines, source: &mut S) -> Checked
     let mut place = Place::Blank;
     let mut number = 1;
     loop {
-        match next_place(&mut lines, source, place, number) {
+        match next_place(alloc, &mut lines, source, place, number) {
             Ok(next) => place = next,
             Err(verdict) => return verdict,
         }
@@ -48,6 +51,7 @@ fn check_lines<S: Source>(lines: Lines, source: &mut S) -> Checked
 
 /// Goes on by one line, of that number, or gives the verdict on the file.
 fn next_place<S: Source>(
+    alloc: Global,
     lines: &mut Lines,
     source: &mut S,
     place: Place,
@@ -64,9 +68,10 @@ fn next_place<S: Source>(
     ensures longest { lines.new.longest ≡ lines.old.longest }
 {
     match lines.next_line(source) {
-        LineGot::Line => match place.next(lines.line()) {
+        LineGot::Line => match place.next(alloc, lines.line()) {
             Ok(next) => Ok(next),
-            Err(part) => Err(Checked::Invalid { line: number, part }),
+            Err(Stop::Wrong(part)) => Err(Checked::Invalid { line: number, part }),
+            Err(Stop::NoMemory) => Err(Checked::NoMemory),
         },
         LineGot::Piece => Err(place.ends(lines.line(), number)),
         LineGot::End => Err(place.ends(lines.line(), number)),

@@ -3,10 +3,12 @@
 
 mod checking;
 mod claims;
+mod eliminations;
 mod lines;
 mod places;
+mod stops;
 mod verdicts;
 
 pub use checking::check_result;
-pub use claims::Claim;
+pub use eliminations::Elimination;
 pub use verdicts::{Checked, Part};

@@ -1,3 +1,5 @@
+use farkas_check::Flaw;
+
 /// What the check of a file says of it.
 #[derive(Clone, Copy, PartialEq, Eq, Debug)]
 pub enum Checked {
@@ -54,6 +56,24 @@ pub enum Part {
     Sum,
     /// No strict answer or increment has weight, or the verdict is another.
     Strict,
+}
+
+impl From<Flaw> for Part {
+    ghost use Rattle.std.specs.Prelude.{◌≡◌};
+    ghost use Rattle.result_file.specs.Parts.{part_of};
+
+    ghost from_gives = { λ flaw part. part ≡ part_of flaw };
+
+    fn from(flaw: Flaw) -> Part {
+        match flaw {
+            Flaw::Scale => Part::Scale,
+            Flaw::Increment => Part::Increment,
+            Flaw::Cite => Part::Cite,
+            Flaw::Weight => Part::Weight,
+            Flaw::Sum => Part::Sum,
+            Flaw::Strict => Part::Strict,
+        }
+    }
 }
 
 impl Part {

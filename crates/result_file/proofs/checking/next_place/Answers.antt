@@ -6,9 +6,9 @@ pub returns-in-Ok-clause-next : goal.returns-in-Ok-clause-next
 returns-in-Ok-clause-next g c = λ text h.
     line_come text _ _ c.args.number c.args.place c.in-Ok.next c.next_line.new.self h c.in-Line.ensures.got (rw c.line.ensures at c.in-Ok.ensures.next)
 
-pub returns-in-Err-clause-verdict : goal.returns-in-Err-clause-verdict
-returns-in-Err-clause-verdict g c = λ text h.
-    line_checked text _ _ c.args.number c.args.place c.next_line.new.self c.in-Err.part h c.in-Line.ensures.got (omega (arith, c.in-Line.ensures.got.fits, c.in-Line.ensures.limits.longest, c.requires)) (rw c.line.ensures at c.in-Err.ensures.failed)
+pub returns-in-Err-Wrong-clause-verdict : goal.returns-in-Err-Wrong-clause-verdict
+returns-in-Err-Wrong-clause-verdict g c = λ text h.
+    line_checked text _ _ c.args.number c.args.place c.next_line.new.self c.in-Err-Wrong.part h c.in-Line.ensures.got (omega (arith, c.in-Line.ensures.got.fits, c.in-Line.ensures.limits.longest, c.requires)) (rw (c.line.ensures, c.in-Err-Wrong.field-0-is) at c.in-Err-Wrong.ensures.failed)
 
 pub returns-in-Piece-clause-verdict : goal.returns-in-Piece-clause-verdict
 returns-in-Piece-clause-verdict g c = λ text h.
