@@ -1,5 +1,5 @@
 //! What is timed.
-ghost use Rattle.std.specs.Prelude.{◌≡◌, ◌+◌, ◌<◌, ◌≤◌, length, unsigned_abs};
+ghost use Rattle.std.specs.Prelude.{◌≡◌, ◌+◌, ◌<◌, ◌≤◌, ◌^◌, length, unsigned_abs};
 
 use criteria_model::Row;
 use fraction_free::Dictionary;
@@ -11,11 +11,11 @@ pub fn fill(work: &mut Dictionary, rows: u32)
     requires columns { work.old.columns ≡ 24 }
 {
     let mut seed: u64 = 1;
-    for _ in 0..rows {
+    for row in 0..rows {
         seed = seed
             .wrapping_mul(6_364_136_223_846_793_005)
             .wrapping_add(1_442_695_040_888_963_407);
-        work.add_row(&row_of(seed), 1);
+        work.add_row(&row_of(seed ^ u64::from(row)), 1);
     }
 }
 
@@ -25,8 +25,8 @@ fn row_of(seed: u64) -> Row
 {
     let mut cells = [0; 24];
     let mut rest = seed;
-    for cell in cells.iter_mut() {
-        *cell = digit(rest);
+    for place in 0..24 {
+        cells[place] = digit(rest);
         rest /= 3;
     }
     Row::of(&cells)
@@ -51,7 +51,9 @@ pub fn pivots(work: &mut Dictionary, count: u32) -> u64 {
             let col = (turn % u32::from(work.cols())) as u8 + 1;
             if work.entry(row, col) != 0 {
                 work.pivot(row, col);
-                entries = entries.wrapping_add(u64::from(work.rows()) * (u64::from(work.cols()) + 1));
+                entries = entries.wrapping_add(
+                    u64::from(work.rows()) * (u64::from(work.cols()) + 1),
+                );
             }
         }
     }
@@ -63,9 +65,17 @@ pub fn wide_steps(count: u32) -> u64 {
     let mut sum: u64 = 0;
     for turn in 0..count {
         let factor = i128::from(turn) + (1 << 100);
-        if step(factor, factor, factor, factor, factor) == 0 {
+        if squares_apart(factor) == 0 {
             sum = sum.wrapping_add(1);
         }
     }
     sum
+}
+
+/// The difference of a number's square and itself, divided by the number.
+fn squares_apart(number: i128) -> i128
+    requires size { unsigned_abs number < 2 ^ 120 }
+    requires divisor { 0 < unsigned_abs number }
+{
+    step(number, number, number, number, number)
 }
