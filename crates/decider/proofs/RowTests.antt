@@ -12,19 +12,11 @@ use Rattle.fraction_free.specs.declared.loaded.LoadedRow.{LoadedRow}
 use Rattle.fraction_free.specs.Tableau.{loaded_at}
 use Rattle.decider.specs.Standing.{HasRow}
 
-yes_of : (b : Bool) (P : Type 0) → Decides b P → b ≡ true → P
-yes_of true P d e = d
-yes_of false P d e = absurd (false≢true e)
-
-true_of : (b : Bool) (P : Type 0) → Decides b P → P → b ≡ true
-true_of true P d p = refl
-true_of false P d p = absurd (d p)
-
 pub same_int : (x y : ℤ) → int_eq x y ≡ true → x ≡ y
-same_int x y e = yes_of (int_eq x y) (x ≡ y) (Decides-int_eq x y) e
+same_int x y e = (Decides-int_eq x y).0 e
 
 pub int_same : (x : ℤ) → int_eq x x ≡ true
-int_same x = true_of (int_eq x x) (x ≡ x) (Decides-int_eq x x) refl
+int_same x = (Decides-int_eq x x).1 refl
 
 and_parts : (a b : Bool) → (a && b) ≡ true → (a ≡ true) × (b ≡ true)
 and_parts true b h = (refl, h)

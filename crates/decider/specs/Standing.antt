@@ -1,5 +1,5 @@
 -- Dictionaries whose rows are those of answers.
-use Rattle.std.specs.Prelude.{ℕ, ◌+◌, ◌-◌, ◌*◌, ◌≡◌, ◌≤◌, List, [], ◌∷◌, ◌++◌, length, take, ℤ, pos}
+use Rattle.std.specs.Prelude.{ℕ, ◌+◌, ◌-◌, ◌*◌, ◌≡◌, ◌<◌, ◌≤◌, List, [], ◌∷◌, ◌++◌, length, take, ℤ, pos}
 use Rattle.std.specs.List.{flat_map}
 use Rattle.criteria_model.specs.declared.pairs.Pair.{Pair}
 use Rattle.criteria_model.specs.declared.pairs.Answer.{Answer}
@@ -8,7 +8,7 @@ use Rattle.criteria_model.specs.declared.pairs.Side.TheVariants.{Left, Right, Eq
 use Rattle.criteria_model.specs.Worth.{increments}
 use Rattle.criteria_model.specs.Answers.{gain}
 use Rattle.fraction_free.specs.declared.loaded.LoadedRow.{LoadedRow}
-use Rattle.fraction_free.specs.Tableau.{Tableau}
+use Rattle.fraction_free.specs.Tableau.{Tableau, loaded_at}
 use Rattle.fraction_free.specs.Changes.{next_count}
 
 -- the rows of a ranking: a strict one for left and right, and two that are not for equal
@@ -20,6 +20,16 @@ rows_of levels pair Equal = (record { coefficients = gain levels pair Left; leas
 -- the rows of the answers, in order
 abbrev pub rows_of_answers : List ℕ → List Answer → List LoadedRow
 rows_of_answers levels answers = flat_map (λ answer. rows_of levels answer.pair answer.side) answers
+
+-- the row stands after the first `before`
+pub record HasRow (loaded : List LoadedRow) (before : ℕ) (row : LoadedRow) : Type 0 where
+  pub within : before < length loaded
+  pub is : loaded_at loaded before ≡ row
+
+-- these rows stand after the first `from`
+abbrev pub BeginsAt : List LoadedRow → List LoadedRow → ℕ → Type 0
+BeginsAt loaded [] from = Unit {0}
+BeginsAt loaded (row ∷ rows) from = HasRow loaded from row × BeginsAt loaded rows (from + 1)
 
 -- the dictionary has the model's increments as columns, and the answers' rows
 pub record StandsFor (levels : List ℕ) (answers : List Answer) (d : Tableau) : Type 0 where

@@ -2,10 +2,12 @@
 #![tactic(auto)]
 
 mod decision;
+mod points;
 mod rows;
+mod standing;
 mod tools;
 mod trial;
 
 pub use decision::Decision;
+pub use points::point_with;
 pub use tools::{Snapshot, Tools};
-pub use trial::try_side;

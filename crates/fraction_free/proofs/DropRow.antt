@@ -294,6 +294,6 @@ found_below m l s places lines given a b c d e f column row last kept some last_
       | inl inside ↦ inside
       | inr past ↦ absurd
           (slack_has_entry m l s places.order lines column (length l - 1) t (omega arith) below (value ∙ omega arith)
-            (λ y eqs. kept.solutions y (satisfies_from m l s places.order lines a b e f y t.order_len t.constant eqs))
-            (λ r inside. ap (λ (ls : List (List ℤ)). get_or (get_or ls r []) column (pos 0)) (sym same) ∙ before r (omega arith)))
+          (λ y eqs. kept.solutions y (satisfies_from m l s places.order lines a b e f y t.order_len t.constant eqs))
+          (λ r inside. ap (λ (ls : List (List ℤ)). get_or (get_or ls r []) column (pos 0)) (sym same) ∙ before r (omega arith)))
     ]
