@@ -48,20 +48,22 @@ RowIs loaded before coefficients least = HasRow loaded before (record { coeffici
 pub least_tested : (loaded : List LoadedRow) (before place : ℕ) (coefficients held : List ℤ) (least bound : ℤ) → before < length loaded → place ≡ before
     → held ≡ (loaded_at loaded place).coefficients → bound ≡ (loaded_at loaded place).least → held ≡ coefficients → SFits w8 bound → SFits w8 least
     → IsTrue (of_z w8 bound == of_z w8 least) ↔ RowIs loaded before coefficients least
-least_tested loaded before place coefficients held least bound lt e hc hb same fb fl =
-    (λ t. record { within = lt; is = made (same_bits bound least fb fl (eqb-true (of_z w8 bound) (of_z w8 least) t)) },
-     λ row. eq-eqb (of_z w8 bound) (of_z w8 least) (ap (of_z w8) (hb ∙ ap (λ (n : ℕ). (loaded_at loaded n).least) e ∙ ap (λ (r : LoadedRow). r.least) row.is)))
+least_tested loaded before place coefficients held least bound lt e hc hb same fb fl = (
+  λ t. record { within = lt; is = made (same_bits bound least fb fl (eqb-true (of_z w8 bound) (of_z w8 least) t)) },
+  λ row. eq-eqb (of_z w8 bound) (of_z w8 least) (ap (of_z w8) (hb ∙ ap (λ (n : ℕ). (loaded_at loaded n).least) e ∙ ap (λ (r : LoadedRow). r.least) row.is)),
+)
   where
     made : bound ≡ least → loaded_at loaded before ≡ record { coefficients = coefficients; least = least }
     made f =
-      ap (λ (n : ℕ). loaded_at loaded n) (sym e)
-      ∙ ap (λ (l : List ℤ). record { coefficients = l; least = (loaded_at loaded place).least }) (sym hc ∙ same)
-      ∙ ap (λ (z : ℤ). record { coefficients = coefficients; least = z }) (sym hb ∙ f)
+        ap (λ (n : ℕ). loaded_at loaded n) (sym e)
+        ∙ ap (λ (l : List ℤ). record { coefficients = l; least = (loaded_at loaded place).least }) (sym hc ∙ same)
+        ∙ ap (λ (z : ℤ). record { coefficients = coefficients; least = z }) (sym hb ∙ f)
 
 -- other coefficients
 pub other_row : (loaded : List LoadedRow) (before place : ℕ) (coefficients held : List ℤ) (least : ℤ) (tested : Bool) → place ≡ before
     → held ≡ (loaded_at loaded place).coefficients → tested ≡ false → (held ≡ coefficients → tested ≡ true)
     → IsTrue tested ↔ RowIs loaded before coefficients least
-other_row loaded before place coefficients held least tested e hc no_ yes_ =
-    (λ t. absurd (true≢false (sym t ∙ no_)),
-     λ row. absurd (true≢false (sym (yes_ (hc ∙ ap (λ (n : ℕ). (loaded_at loaded n).coefficients) e ∙ ap (λ (r : LoadedRow). r.coefficients) row.is)) ∙ no_)))
+other_row loaded before place coefficients held least tested e hc no_ yes_ = (
+  λ t. absurd (true≢false (sym t ∙ no_)),
+  λ row. absurd (true≢false (sym (yes_ (hc ∙ ap (λ (n : ℕ). (loaded_at loaded n).coefficients) e ∙ ap (λ (r : LoadedRow). r.coefficients) row.is)) ∙ no_)),
+)

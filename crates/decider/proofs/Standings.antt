@@ -54,8 +54,10 @@ begins_part xs (y ∷ ys) =
   where
     zero_place : length xs - length xs ≡ 0
     zero_place = omega arith
+
     at_seam : loaded_at (xs ++ y ∷ ys) (length xs) ≡ y
     at_seam = get_or-append_right xs (y ∷ ys) (length xs) (length xs) no_row refl (omega arith) ∙ ap (λ (n : ℕ). get_or (y ∷ ys) n no_row) zero_place
+
     subst2 : {l m : List LoadedRow} → l ≡ m → {i j : ℕ} → i ≡ j → BeginsAt l ys i → BeginsAt m ys j
     subst2 {l} {m} e {i} {j} f h = subst (λ (n : ℕ). BeginsAt m ys n) f (subst (λ (k : List LoadedRow). BeginsAt k ys i) e h)
 
@@ -113,12 +115,12 @@ held_more levels answers loaded row held count answer lt g e ec b so =
     let more = rows_more levels answers held answer lt e in
     let z : row ≡ 0 + length (rows_of_answers levels (take held answers)) = so.row_is ∙ omega arith in
     let both : BeginsAt loaded (rows_of_answers levels (take held answers) ++ rows_of levels answer.pair answer.side) 0 =
-      begins_append loaded (rows_of_answers levels (take held answers)) (rows_of levels answer.pair answer.side) 0 so.begins (subst (BeginsAt loaded (rows_of levels answer.pair answer.side)) z b) in
+    begins_append loaded (rows_of_answers levels (take held answers)) (rows_of levels answer.pair answer.side) 0 so.begins (subst (BeginsAt loaded (rows_of levels answer.pair answer.side)) z b) in
     record {
       most = omega arith;
       row_is = omega (arith, so.row_is, ec, ap length more, length-append (rows_of_answers levels (take held answers)) (rows_of levels answer.pair answer.side));
       begins = subst (λ (l : List LoadedRow). BeginsAt loaded l 0) (sym more) both;
-      within = let w = begins_within loaded (rows_of levels answer.pair answer.side) row so.within b in omega (arith, ec)
+      within = let w = begins_within loaded (rows_of levels answer.pair answer.side) row so.within b in omega (arith, ec);
     }
 
 -- it stands for no other number of answers
@@ -136,15 +138,15 @@ none_other levels answers d row held answer within e lt so differs k le stands =
     from : (nat_lt held k ≡ true) ⊎ (nat_lt held k ≡ false) → ⊥
     from (inr f) = none_fewer levels answers d row held lt so k (ltb-false held k f) stands
     from (inl t) =
-      let more : held + 1 ≤ k = let h = ltb-true held k t in omega arith in
-      let rest : List LoadedRow = rows_of_answers levels (drop (held + 1) (take k answers)) in
-      let whole : d.loaded ≡ (rows_of_answers levels (take held answers) ++ rows_of levels answer.pair answer.side) ++ rows_of_answers levels (drop (held + 1) (take k answers)) =
+        let more : held + 1 ≤ k = let h = ltb-true held k t in omega arith in
+        let rest : List LoadedRow = rows_of_answers levels (drop (held + 1) (take k answers)) in
+        let whole : d.loaded ≡ (rows_of_answers levels (take held answers) ++ rows_of levels answer.pair answer.side) ++ rows_of_answers levels (drop (held + 1) (take k answers)) =
         stands.loaded ∙ rows_part levels answers (held + 1) k more ∙ ap (λ (l : List LoadedRow). l ++ rows_of_answers levels (drop (held + 1) (take k answers))) (rows_more levels answers held answer within e) in
-      let z : 0 + length (rows_of_answers levels (take held answers)) ≡ row = omega arith ∙ sym so.row_is in
-      differs (subst (BeginsAt d.loaded (rows_of levels answer.pair answer.side)) z
+        let z : 0 + length (rows_of_answers levels (take held answers)) ≡ row = omega arith ∙ sym so.row_is in
+        differs (subst (BeginsAt d.loaded (rows_of levels answer.pair answer.side)) z
         (begins_later d.loaded (rows_of_answers levels (take held answers)) (rows_of levels answer.pair answer.side) 0
-          (begins_first d.loaded (rows_of_answers levels (take held answers) ++ rows_of levels answer.pair answer.side) (rows_of_answers levels (drop (held + 1) (take k answers))) 0
-            (subst (λ (l : List LoadedRow). BeginsAt d.loaded l 0) whole (begins_self d.loaded)))))
+        (begins_first d.loaded (rows_of_answers levels (take held answers) ++ rows_of levels answer.pair answer.side) (rows_of_answers levels (drop (held + 1) (take k answers))) 0
+        (subst (λ (l : List LoadedRow). BeginsAt d.loaded l 0) whole (begins_self d.loaded)))))
 
 -- ---- how many rows
 
@@ -182,6 +184,7 @@ one_standing levels answers d i j li lj si sj = from (cases_Bool (nat_lt i j)) (
   where
     same : length (rows_of_answers levels (take i answers)) ≡ length (rows_of_answers levels (take j answers))
     same = sym (ap length si.loaded) ∙ ap length sj.loaded
+
     from : (nat_lt i j ≡ true) ⊎ (nat_lt i j ≡ false) → (nat_lt j i ≡ true) ⊎ (nat_lt j i ≡ false) → i ≡ j
     from (inl a) b = absurd (omega (arith, same, rows_len-lt levels answers i j (ltb-true i j a) lj))
     from (inr a) (inl b) = absurd (omega (arith, same, rows_len-lt levels answers j i (ltb-true j i b) li))
@@ -203,7 +206,7 @@ begun_warm levels answers old held le stands = record {
   stands = stands;
   room = record { columns = refl; rows = refl };
   warm = λ k l s. (one_standing levels answers old k held l le s stands, refl, refl);
-  cold = λ none. absurd (none held le stands)
+  cold = λ none. absurd (none held le stands);
 }
 
 pub begun_cold : (levels : List ℕ) (answers : List Answer) (old : Tableau) (columns : ℕ) → columns ≡ increments levels
@@ -214,7 +217,7 @@ begun_cold levels answers old columns e none = record {
   stands = record { columns = e; loaded = refl };
   room = record { columns = refl; rows = refl };
   warm = λ k l s. absurd (none k l s);
-  cold = λ n. (refl, refl, refl)
+  cold = λ n. (refl, refl, refl);
 }
 
 -- and while they are
@@ -231,12 +234,12 @@ pub brought_more : (levels : List ℕ) (answers : List Answer) (start now new : 
 brought_more levels answers start now new held at answer low lt e loaded columns room loads added is so = record {
   stands = record {
     columns = columns ∙ so.stands.columns;
-    loaded = loaded ∙ ap (λ (l : List LoadedRow). l ++ rows_of levels answer.pair answer.side) so.stands.loaded ∙ sym (rows_more levels answers at answer lt e)
+    loaded = loaded ∙ ap (λ (l : List LoadedRow). l ++ rows_of levels answer.pair answer.side) so.stands.loaded ∙ sym (rows_more levels answers at answer lt e);
   };
   room = record { columns = room.columns ∙ so.room.columns; rows = room.rows ∙ so.room.rows };
   loads = loads ∙ so.loads;
   added = let a = so.added in omega arith;
-  dictionary = is
+  dictionary = is;
 }
 
 pub brought_room : (levels : List ℕ) (answers : List Answer) (old start now : Tableau) (held at : ℕ) → at < length answers → HasRoom levels answers old → KeepsRoom old start
@@ -256,5 +259,23 @@ brought_up levels answers old start now held at ge le begun so =
       stands = subst (λ (l : List Answer). StandsFor levels l now) (ap (λ (n : ℕ). take n answers) whole ∙ take_whole answers) so.stands;
       room = record { columns = so.room.columns ∙ begun.room.columns; rows = so.room.rows ∙ begun.room.rows };
       warm = λ k l s. let w = begun.warm k l s in (so.loads ∙ w.1, let a = so.added in omega (arith, w.0, w.2));
-      cold = λ none. let w = begun.cold none in (so.loads ∙ w.1, let a = so.added in omega (arith, w.0, w.2))
+      cold = λ none. let w = begun.cold none in (so.loads ∙ w.1, let a = so.added in omega (arith, w.0, w.2));
     }
+
+pub begun_is_warm : (levels : List ℕ) (answers : List Answer) (old start : Tableau) (held h : ℕ) → start ≡ old → held ≡ h → h ≤ length answers → StandsFor levels (take h answers) old → Begun levels answers old start held
+begun_is_warm levels answers old start held h e f le stands =
+    subst (λ (n : ℕ). Begun levels answers old start n) (sym f) (subst (λ (t : Tableau). Begun levels answers old t h) (sym e) (begun_warm levels answers old h le stands))
+
+pub begun_is_cold : (levels : List ℕ) (answers : List Answer) (old start : Tableau) (held columns : ℕ) → start ≡ empty_tableau columns old.room_columns old.room_rows (next_count old.loads) old.added → held ≡ 0 → columns ≡ increments levels
+    → ((k : ℕ) → k ≤ length answers → ¬ StandsFor levels (take k answers) old) → Begun levels answers old start held
+begun_is_cold levels answers old start held columns e f g none =
+    subst (λ (n : ℕ). Begun levels answers old start n) (sym f) (subst (λ (t : Tableau). Begun levels answers old t 0) (sym e) (begun_cold levels answers old columns g none))
+
+pub brought_none : (levels : List ℕ) (answers : List Answer) (old start : Tableau) (held : ℕ) → Begun levels answers old start held → IsDictionary start → BroughtSoFar levels answers start start held held
+brought_none levels answers old start held begun is = record {
+  stands = begun.stands;
+  room = record { columns = refl; rows = refl };
+  loads = refl;
+  added = omega arith;
+  dictionary = is;
+}

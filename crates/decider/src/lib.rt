@@ -1,13 +1,14 @@
-//! Decisions on pairs: two opposed vectors, or a combination that proves the ranking.
+//! Decisions on pairs: what a decision is, the dictionary that stands for answers, and rankings tried
+//! beside them.
 #![tactic(auto)]
 
 mod decision;
-mod points;
 mod rows;
 mod standing;
 mod tools;
 mod trial;
 
 pub use decision::Decision;
-pub use points::point_with;
+pub use standing::bring_up;
 pub use tools::{Snapshot, Tools};
+pub use trial::try_side;

@@ -14,9 +14,10 @@ use fraction_free::Dictionary;
 /// those of the first answers.
 pub fn standing(model: &Model, answers: &Answers, work: &Dictionary) -> Option<u32>
     requires { All (λ answer. IsFit model.now.levels answer.pair) answers.now.answers }
-    ensures { MatchOption result
+    ensures standing { MatchOption result
         ((held : ℕ) → held ≤ length answers.now.answers → ¬ StandsFor model.now.levels (take held answers.now.answers) work.now)
         (λ held. (held ≤ length answers.now.answers) × StandsFor model.now.levels (take held answers.now.answers) work.now) }
+    ensures dictionary { IsDictionary work.now }
 {
     if work.cols() != model.increments() {
         return None;
