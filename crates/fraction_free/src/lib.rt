@@ -12,3 +12,6 @@ mod slack_line;
 pub use dictionary::Dictionary;
 pub use loaded::LoadedRow;
 pub use std::alloc::AllocError as NoMemory;
+
+#[cfg(test)]
+mod tests;

@@ -1,0 +1,3 @@
+pub mod LineLaws
+pub mod StageLaws
+pub mod VerdictLaws

@@ -1,0 +1,6 @@
+pub mod Numerals
+pub mod ListSteps
+pub mod SignedCells
+pub mod NumberLaws
+pub mod ListLaws
+pub mod WordLaws

@@ -1,0 +1,39 @@
+// The digits at the front of a text.
+ghost use Rattle.std.specs.Prelude.{◌≡◌, ◌+◌, ◌^◌, ◌<◌, ◌≤◌, None, Some, length, drop, MatchOption};
+ghost use Rattle.text_fields.specs.Reading.{number_at, begins_number as begins_number_by};
+
+/// Whether digits stand at the front, the first of them no 0 unless it is the only one.
+fn begins_number(text: &[u8]) -> bool
+    ensures { result ≡ begins_number_by text.now }
+{
+    match text {
+        [] => false,
+        [b'0', second, ..] => !second.is_ascii_digit(),
+        [first, ..] => first.is_ascii_digit(),
+    }
+}
+
+/// The number at the front of the text, up to `most`, and how many digits it takes.
+#[tactic(auto, unfolding(crate::specs::Reading::number_at))]
+pub(crate) fn digits_at(text: &[u8], most: u128) -> Option<(u128, usize)>
+    requires { most < 2 ^ 96 }
+    ensures value { MatchOption result
+        (number_at most text.now ≡ None)
+        (λ found. number_at most text.now ≡ Some (found.0, drop found.1 text.now)) }
+    ensures limit { MatchOption result (Unit {0}) (λ found. found.0 ≤ most) }
+    ensures within { MatchOption result (Unit {0}) (λ found. found.1 ≤ length text.now) }
+{
+    if !begins_number(text) {
+        return None;
+    }
+    let mut value = 0;
+    let mut len = 0;
+    while len < text.len() && text[len].is_ascii_digit() {
+        value = value * 10 + u128::from(text[len] - b'0');
+        if value > most {
+            return None;
+        }
+        len += 1;
+    }
+    Some((value, len))
+}
