@@ -1,0 +1,14 @@
+//! Decisions on pairs: what a decision is, the dictionary that stands for answers, and rankings tried
+//! beside them.
+#![tactic(auto)]
+
+mod decision;
+mod rows;
+mod standing;
+mod tools;
+mod trial;
+
+pub use decision::Decision;
+pub use standing::bring_up;
+pub use tools::{Snapshot, Tools};
+pub use trial::try_side;

@@ -1,0 +1,34 @@
+//! A ranking tried beside the answers.
+ghost use Rattle.std.specs.Prelude.{◌≡◌, ◌+◌, ◌≤◌, ◌++◌, length};
+ghost use Rattle.criteria_model.specs.Worth.{increments};
+ghost use Rattle.criteria_model.specs.Pairs.{IsFit};
+ghost use Rattle.fraction_free.specs.Tableau.{IsDictionary};
+ghost use Rattle.simplex.specs.Results.{IsFound};
+ghost use Rattle.decider.specs.Standing.{rows_of, KeepsRoom};
+
+use crate::rows::{add_rows, row_count};
+use criteria_model::{Model, Pair, Side};
+use fraction_free::Dictionary;
+use simplex::{Found, solve};
+
+/// What the solver finds with the rows of the ranking added; they are dropped afterwards.
+pub fn try_side(model: &Model, pair: &Pair, side: Side, work: &mut Dictionary) -> Found
+    requires fits { IsFit model.now.levels pair.now }
+    requires columns { work.old.columns ≡ increments model.now.levels }
+    requires room { length work.old.loaded + 2 ≤ work.old.room_rows }
+    ensures found { IsFound work.old.columns (work.old.loaded ++ rows_of model.now.levels pair.now side) result }
+    ensures loaded { work.new.loaded ≡ work.old.loaded }
+    ensures columns { work.new.columns ≡ work.old.columns }
+    ensures room { KeepsRoom work.old work.new }
+    ensures loads { work.new.loads ≡ work.old.loads }
+    ensures added { work.new.added ≤ work.old.added + 2 }
+    ensures dictionary { IsDictionary work.new }
+{
+    add_rows(model, pair, side, work);
+    let found = solve(work);
+    work.drop_last();
+    if row_count(side) == 2 {
+        work.drop_last();
+    }
+    found
+}
