@@ -1,0 +1,5 @@
+pub mod Cited
+pub mod Sums
+pub mod Proof
+pub mod Flaws
+pub mod Laws

@@ -1,0 +1,21 @@
+-- What a combination sums to.
+use Rattle.std.specs.Prelude.{ℕ, ◌-◌, List, [], fold, slice_get, ℤ}
+use Rattle.std.specs.Option.{option_map_or}
+use Rattle.criteria_model.specs.declared.pairs.Answer.{Answer}
+use Rattle.criteria_model.specs.declared.pairs.Side.{Side}
+use Rattle.criteria_model.specs.declared.pairs.Side.TheVariants.{Equal}
+use Rattle.criteria_model.specs.Rows.{plus, times}
+use Rattle.criteria_model.specs.Answers.{gain}
+use Rattle.farkas_check.specs.declared.cites.Cite.{Cite}
+
+-- the side of the cited answer; equal where no such answer is there
+abbrev pub cited_side : List Answer → Cite → Side
+cited_side answers cite = option_map_or (λ answer. answer.side) (slice_get answers (cite.answer - 1)) Equal
+
+-- for each increment, what the winner of the cited answer has more than the loser; nothing where no such answer is there
+abbrev pub cited_gain : List ℕ → List Answer → Cite → List ℤ
+cited_gain levels answers cite = option_map_or (λ answer. gain levels answer.pair answer.side) (slice_get answers (cite.answer - 1)) []
+
+-- for each increment, its own weight and the sum, over the cites, of weight times gain
+abbrev pub total : List ℕ → List Answer → List ℤ → List Cite → List ℤ
+total levels answers own cites = fold (λ sums cite. plus sums (times cite.weight (cited_gain levels answers cite))) own cites
