@@ -1,0 +1,96 @@
+-- What a list of events comes to: the standing events, the committed answers, the issued and the open questions.
+-- Questions are numbered by their Issues, from 1 on, and classes have their places in the class list, from 1 on.
+use Rattle.std.specs.Prelude.{ℕ, ◌+◌, ◌-◌, Bool, false, not, ◌&&◌, ◌||◌, ◌==◌, if◌then◌else◌, IsTrue, List, [], ◌∷◌, ◌++◌, length, filter, count_by, fold, slice_get, Contains, Option, Some, None}
+use Rattle.std.specs.Option.{option_map, option_map_or, option_and_then}
+use Rattle.std.specs.List.{list_any, filter_map, range_with_len}
+use Rattle.criteria_model.specs.declared.pairs.Pair.{Pair}
+use Rattle.criteria_model.specs.declared.pairs.Answer.{Answer}
+use Rattle.survey_core.specs.declared.events.Event.{Event}
+use Rattle.survey_core.specs.declared.events.Event.TheVariants.{Eliminate, Issue, Commit, Close, Withdraw}
+use Rattle.survey_core.specs.Kinds.{eliminates, cites, issued_place, is_commit, commits, closes, is_withdraw}
+
+-- what a withdrawal of the answer takes out of the standing events, seen from what stands behind it: each Eliminate that
+-- cites the answer, the last Commit, and each Close after that
+abbrev pub is_taken : ℕ → List Event → Event → Bool
+is_taken answer later (Eliminate worker place verdict combination) = cites answer (Eliminate worker place verdict combination)
+is_taken answer later (Commit desk question side plus minus point) = not (list_any is_commit later)
+is_taken answer later (Close desk question) = not (list_any is_commit later)
+is_taken answer later _ = false
+
+-- the standing events without those
+abbrev pub without_answer : ℕ → List Event → List Event
+without_answer answer [] = []
+without_answer answer (event ∷ later) = if is_taken answer later event then without_answer answer later else event ∷ without_answer answer later
+
+-- the standing events, after one more event: a Withdraw takes events out, any other event is put at the end
+abbrev pub standing_after : List Event → Event → List Event
+standing_after standing (Withdraw desk answer) = without_answer answer standing
+standing_after standing event = standing ++ event ∷ []
+
+-- the events of a history that no withdrawal has taken out
+abbrev pub standing : List Event → List Event
+standing history = fold standing_after [] history
+
+-- the places of the Issues, in order
+abbrev pub issued : List Event → List ℕ
+issued history = filter_map issued_place history
+
+-- whether the class was issued
+abbrev pub is_issued : List Event → ℕ → Bool
+is_issued history place = list_any (λ asked. asked == place) (issued history)
+
+-- the place of the class that the question asks, where it was issued
+abbrev pub place_of : List Event → ℕ → Option ℕ
+place_of history question = slice_get (issued history) (question - 1)
+
+-- the class at a place
+abbrev pub class_at : List Pair → ℕ → Option Pair
+class_at classes place = slice_get classes (place - 1)
+
+-- the class of the question
+abbrev pub class_of : List Pair → List Event → ℕ → Option Pair
+class_of classes history question = option_and_then (class_at classes) (place_of history question)
+
+-- the answer that a Commit gives: its question's class, and its side
+abbrev pub answer_of : List Pair → List Event → Event → Option Answer
+answer_of classes history (Commit desk question side plus minus point) =
+    option_map (λ pair. record { pair = pair; side = side }) (class_of classes history question)
+answer_of classes history _ = None
+
+-- the answers of the standing Commits, in order
+abbrev pub committed : List Pair → List Event → List Answer
+committed classes history = filter_map (answer_of classes history) (standing history)
+
+-- whether the question has neither a Commit nor a Close that stands
+abbrev pub is_unended : List Event → ℕ → Bool
+is_unended history question = not (list_any (λ event. commits question event || closes question event) (standing history))
+
+-- the numbers of the open questions: those that were issued and have neither
+abbrev pub open_questions : List Event → List ℕ
+open_questions history = filter (is_unended history) (range_with_len 1 (length (issued history)))
+
+-- the question is open
+abbrev pub IsOpenQuestion : List Event → ℕ → Type 0
+IsOpenQuestion history question = Contains (open_questions history) question
+
+-- whether the class has an Eliminate that stands
+abbrev pub is_eliminated : List Event → ℕ → Bool
+is_eliminated history place = list_any (eliminates place) (standing history)
+
+-- a Commit of a question that asks the class
+abbrev pub answers_class : List Event → ℕ → Event → Bool
+answers_class history place (Commit desk question side plus minus point) =
+    option_map_or (λ asked. asked == place) (place_of history question) false
+answers_class history place _ = false
+
+-- whether the class has a Commit that stands
+abbrev pub is_committed : List Event → ℕ → Bool
+is_committed history place = list_any (answers_class history place) (standing history)
+
+-- whether the class is ranked by an event: it has an Eliminate or a Commit that stands
+abbrev pub is_ranked : List Event → ℕ → Bool
+is_ranked history place = is_eliminated history place || is_committed history place
+
+-- how often an answer was withdrawn
+abbrev pub withdrawals : List Event → ℕ
+withdrawals history = count_by is_withdraw history
