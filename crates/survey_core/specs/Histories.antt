@@ -39,31 +39,35 @@ issued history = filter_map issued_place history
 abbrev pub is_issued : List Event → ℕ → Bool
 is_issued history place = list_any (λ asked. asked == place) (issued history)
 
--- the place of the class that the question asks, where it was issued
-abbrev pub place_of : List Event → ℕ → Option ℕ
-place_of history question = slice_get (issued history) (question - 1)
+-- the place of the class that a question asks, by the places of all questions
+abbrev pub place_of : List ℕ → ℕ → Option ℕ
+place_of asked question = slice_get asked (question - 1)
 
 -- the class at a place
 abbrev pub class_at : List Pair → ℕ → Option Pair
 class_at classes place = slice_get classes (place - 1)
 
--- the class of the question
-abbrev pub class_of : List Pair → List Event → ℕ → Option Pair
-class_of classes history question = option_and_then (class_at classes) (place_of history question)
+-- the class of a question
+abbrev pub class_of : List Pair → List ℕ → ℕ → Option Pair
+class_of classes asked question = option_and_then (class_at classes) (place_of asked question)
 
 -- the answer that a Commit gives: its question's class, and its side
-abbrev pub answer_of : List Pair → List Event → Event → Option Answer
-answer_of classes history (Commit desk question side plus minus point) =
-    option_map (λ pair. record { pair = pair; side = side }) (class_of classes history question)
-answer_of classes history _ = None
+abbrev pub answer_of : List Pair → List ℕ → Event → Option Answer
+answer_of classes asked (Commit desk question side plus minus point) =
+    option_map (λ pair. record { pair = pair; side = side }) (class_of classes asked question)
+answer_of classes asked _ = None
 
 -- the answers of the standing Commits, in order
 abbrev pub committed : List Pair → List Event → List Answer
-committed classes history = filter_map (answer_of classes history) (standing history)
+committed classes history = filter_map (answer_of classes (issued history)) (standing history)
+
+-- a Commit or a Close of the question
+abbrev pub ends : ℕ → Event → Bool
+ends question event = commits question event || closes question event
 
 -- whether the question has neither a Commit nor a Close that stands
 abbrev pub is_unended : List Event → ℕ → Bool
-is_unended history question = not (list_any (λ event. commits question event || closes question event) (standing history))
+is_unended history question = not (list_any (ends question) (standing history))
 
 -- the numbers of the open questions: those that were issued and have neither
 abbrev pub open_questions : List Event → List ℕ
@@ -78,14 +82,13 @@ abbrev pub is_eliminated : List Event → ℕ → Bool
 is_eliminated history place = list_any (eliminates place) (standing history)
 
 -- a Commit of a question that asks the class
-abbrev pub answers_class : List Event → ℕ → Event → Bool
-answers_class history place (Commit desk question side plus minus point) =
-    option_map_or (λ asked. asked == place) (place_of history question) false
-answers_class history place _ = false
+abbrev pub commits_class : List ℕ → ℕ → Event → Bool
+commits_class asked place (Commit desk question side plus minus point) = option_map_or (λ other. other == place) (place_of asked question) false
+commits_class asked place _ = false
 
 -- whether the class has a Commit that stands
 abbrev pub is_committed : List Event → ℕ → Bool
-is_committed history place = list_any (answers_class history place) (standing history)
+is_committed history place = list_any (commits_class (issued history) place) (standing history)
 
 -- whether the class is ranked by an event: it has an Eliminate or a Commit that stands
 abbrev pub is_ranked : List Event → ℕ → Bool

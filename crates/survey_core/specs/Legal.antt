@@ -1,5 +1,5 @@
 -- Which events may follow a history. Answers, questions and ranked classes are those of the standing events.
-use Rattle.std.specs.Prelude.{◌≡◌, ◌⊎◌, ℕ, ◌+◌, ◌-◌, ◌*◌, ◌^◌, ◌<◌, ◌≤◌, IsTrue, IsFalse, List, [], ◌∷◌, ◌++◌, length, take, slice_get, Some, IsSomeAnd, unsigned_abs, ℤ}
+use Rattle.std.specs.Prelude.{◌≡◌, ◌⊎◌, ℕ, ◌+◌, ◌*◌, ◌^◌, ◌<◌, ◌≤◌, IsTrue, IsFalse, List, [], ◌∷◌, ◌++◌, length, take, slice_get, Some, IsSomeAnd, unsigned_abs, ℤ}
 use Rattle.criteria_model.specs.declared.pairs.Side.{Side}
 use Rattle.criteria_model.specs.Worth.{increments, IsValueVector}
 use Rattle.criteria_model.specs.Answers.{MeetsAll, Opens}
@@ -8,7 +8,7 @@ use Rattle.farkas_check.specs.Proof.{Proves}
 use Rattle.pair_enumeration.specs.Listed.{Listed}
 use Rattle.survey_core.specs.declared.events.Event.{Event}
 use Rattle.survey_core.specs.declared.events.Event.TheVariants.{Eliminate, Issue, Commit, Close, Withdraw}
-use Rattle.survey_core.specs.Histories.{issued, is_issued, class_at, class_of, committed, open_questions, IsOpenQuestion, is_eliminated, is_ranked, withdrawals}
+use Rattle.survey_core.specs.Histories.{issued, is_issued, place_of, class_at, class_of, committed, open_questions, IsOpenQuestion, is_eliminated, is_ranked, withdrawals}
 
 -- a desk from 1 to 4
 abbrev pub IsDesk : ℕ → Type 0
@@ -63,18 +63,18 @@ pub record MayIssue (listed : Listed) (history : List Event) (place : ℕ) (plus
 
 -- the class of the question has no Eliminate
 abbrev pub IsUneliminated : List Event → ℕ → Type 0
-IsUneliminated history question = IsSomeAnd (slice_get (issued history) (question - 1)) (λ place. IsFalse (is_eliminated history place))
+IsUneliminated history question = IsSomeAnd (place_of (issued history) question) (λ place. IsFalse (is_eliminated history place))
 
 -- the two vectors open the class of the question
 abbrev pub OpensQuestion : Listed → List Event → ℕ → List ℤ → List ℤ → Type 0
 OpensQuestion listed history question plus minus =
-    IsSomeAnd (class_of listed.classes history question)
+    IsSomeAnd (class_of listed.classes (issued history) question)
     (λ pair. Opens listed.criteria.levels (committed listed.classes history) pair plus minus)
 
 -- the point meets the answers with this one more
 abbrev pub MeetsWith : Listed → List Event → ℕ → Side → List ℤ → Type 0
 MeetsWith listed history question side point =
-    IsSomeAnd (class_of listed.classes history question)
+    IsSomeAnd (class_of listed.classes (issued history) question)
     (λ pair. MeetsAll listed.criteria.levels (committed listed.classes history ++ record { pair = pair; side = side } ∷ []) point)
 
 -- a Commit that may follow
@@ -86,7 +86,7 @@ pub record MayCommit (listed : Listed) (history : List Event) (question : ℕ) (
 
 -- the class of the question has an Eliminate
 abbrev pub IsEliminated : List Event → ℕ → Type 0
-IsEliminated history question = IsSomeAnd (slice_get (issued history) (question - 1)) (λ place. IsTrue (is_eliminated history place))
+IsEliminated history question = IsSomeAnd (place_of (issued history) question) (λ place. IsTrue (is_eliminated history place))
 
 -- a Close that may follow
 pub record MayClose (history : List Event) (question : ℕ) : Type 0 where

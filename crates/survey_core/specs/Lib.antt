@@ -5,3 +5,4 @@ pub mod Verdicts
 pub mod Laws
 pub mod Recorded
 pub mod States
+pub mod Marked
