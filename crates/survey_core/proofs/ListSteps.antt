@@ -1,5 +1,6 @@
 -- Lists, element by element.
-use Rattle.std.proofs.Common.{◌≡◌, ℕ, ◌+◌, ◌<◌, ◌≤◌, Bool, true, false, cond, List, [], ◌∷◌, ◌++◌, length, take, Option, Some, None, refl, ap, sym, ◌∙◌, arith}
+use Rattle.std.proofs.Common.{◌≡◌, ◌⊎◌, ℕ, zero, suc, ◌+◌, ◌<◌, ◌≤◌, Bool, true, false, cond, List, [], ◌∷◌, ◌++◌, length, take, All, Option, Some, None, slice_get, refl, ap, sym, ◌∙◌, inl, inr, arith}
+use Rattle.std.proofs.lemmas.Option.{none-some, same_Some}
 use Rattle.std.proofs.lemmas.List.Elements.{filter-append}
 use Rattle.std.proofs.lemmas.List.Concat.{flat_map-cons}
 use Rattle.std.specs.List.{fold, filter, filter_map, flat_map, cons_option}
@@ -43,3 +44,46 @@ flat_map-filter f p q h (x ∷ xs) =
         | false ↦ λ e. rw (filter-append q (f x) (flat_map f xs), e, flat_map-filter f p q h xs) refl
         ]
     in rw (flat_map-cons f x xs) (go (p x) (h x))
+
+pub Each-All : {X : Type 0} (P : X → Type 0) (xs : List X) → Each P xs → All P xs
+Each-All P [] hs k d h = absurd (omega arith)
+Each-All P (x ∷ xs) hs zero d h = hs.0
+Each-All P (x ∷ xs) hs (suc k) d h = Each-All P xs hs.1 k d (omega arith)
+
+pub All-Each : {X : Type 0} (P : X → Type 0) (xs : List X) → All P xs → Each P xs
+All-Each P [] hs = tt
+All-Each P (x ∷ xs) hs = (hs 0 x (omega arith), All-Each P xs (λ k d h. hs (suc k) d (omega arith)))
+
+pub slice_get-take : {X : Type 0} (n : ℕ) (xs : List X) (k : ℕ) → k < n → slice_get (take n xs) k ≡ slice_get xs k
+slice_get-take zero xs k h = absurd (omega arith)
+slice_get-take (suc n) [] k h = refl
+slice_get-take (suc n) (x ∷ xs) zero h = refl
+slice_get-take (suc n) (x ∷ xs) (suc k) h = slice_get-take n xs k (omega arith)
+
+pub slice_get-append : {X : Type 0} (xs ys : List X) (k : ℕ) (x : X) → slice_get xs k ≡ Some x → slice_get (xs ++ ys) k ≡ Some x
+slice_get-append [] ys k x h = absurd (none-some x h)
+slice_get-append (y ∷ xs) ys zero x h = h
+slice_get-append (y ∷ xs) ys (suc k) x h = slice_get-append xs ys k x h
+
+-- an element of a longer list stands in the first part, or is the new one
+pub slice_get-push : {X : Type 0} (xs : List X) (y : X) (k : ℕ) (x : X) → slice_get (xs ++ y ∷ []) k ≡ Some x
+    → (slice_get xs k ≡ Some x) ⊎ ((k ≡ length xs) × (y ≡ x))
+slice_get-push [] y zero x h = inr (refl, same_Some y x h)
+slice_get-push [] y (suc k) x h = absurd (none-some x h)
+slice_get-push (z ∷ xs) y zero x h = inl h
+slice_get-push (z ∷ xs) y (suc k) x h =
+    elim (slice_get-push xs y k x h) [ inl found ↦ inl found | inr last ↦ inr (omega (arith, last.0), last.1) ]
+
+pub slice_get-last : {X : Type 0} (xs : List X) (y : X) → slice_get (xs ++ y ∷ []) (length xs) ≡ Some y
+slice_get-last [] y = refl
+slice_get-last (x ∷ xs) y = slice_get-last xs y
+
+pub take-take : {X : Type 0} (l n : ℕ) (xs : List X) → l ≤ n → take l (take n xs) ≡ take l xs
+take-take zero n xs h = refl
+take-take (suc l) zero xs h = absurd (omega arith)
+take-take (suc l) (suc n) [] h = refl
+take-take (suc l) (suc n) (x ∷ xs) h = ap (λ rest. x ∷ rest) (take-take l n xs (omega arith))
+
+pub filter_map-same : {X Y : Type 0} (f g : X → Option Y) (xs : List X) → Each (λ x. f x ≡ g x) xs → filter_map f xs ≡ filter_map g xs
+filter_map-same f g [] hs = refl
+filter_map-same f g (x ∷ xs) hs = ap (λ o. cons_option o (filter_map f xs)) hs.0 ∙ ap (λ rest. cons_option (g x) rest) (filter_map-same f g xs hs.1)
