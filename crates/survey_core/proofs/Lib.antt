@@ -1,3 +1,5 @@
 pub mod ListSteps
 pub mod StandingLemmas
 pub mod CitedLemmas
+pub mod SoundLemmas
+pub mod LawLemmas

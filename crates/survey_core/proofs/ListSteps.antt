@@ -1,9 +1,11 @@
 -- Lists, element by element.
-use Rattle.std.proofs.Common.{◌≡◌, ◌⊎◌, ℕ, zero, suc, ◌+◌, ◌<◌, ◌≤◌, Bool, true, false, cond, List, [], ◌∷◌, ◌++◌, length, take, All, Option, Some, None, slice_get, refl, ap, sym, ◌∙◌, inl, inr, arith}
+use Rattle.std.proofs.Common.{◌≡◌, ◌⊎◌, ℕ, zero, suc, ◌+◌, ◌<◌, ◌≤◌, ◌==◌, Bool, true, false, cond, ◌||◌, List, [], ◌∷◌, ◌++◌, length, take, get_or, All, Contains, Option, Some, None, slice_get, IsSomeAnd, refl, ap, sym, subst, ◌∙◌, inl, inr, arith}
+use Rattle.std.specs.Option.{option_and_then}
+use Rattle.std.proofs.lemmas.Bool.{eq-eqb}
 use Rattle.std.proofs.lemmas.Option.{none-some, same_Some}
 use Rattle.std.proofs.lemmas.List.Elements.{filter-append}
 use Rattle.std.proofs.lemmas.List.Concat.{flat_map-cons}
-use Rattle.std.specs.List.{fold, filter, filter_map, flat_map, cons_option}
+use Rattle.std.specs.List.{fold, filter, filter_map, flat_map, cons_option, list_any, range_with_len}
 
 -- P holds of each element
 abbrev pub Each : {X : Type 0} → (X → Type 0) → List X → Type 0
@@ -87,3 +89,53 @@ take-take (suc l) (suc n) (x ∷ xs) h = ap (λ rest. x ∷ rest) (take-take l n
 pub filter_map-same : {X Y : Type 0} (f g : X → Option Y) (xs : List X) → Each (λ x. f x ≡ g x) xs → filter_map f xs ≡ filter_map g xs
 filter_map-same f g [] hs = refl
 filter_map-same f g (x ∷ xs) hs = ap (λ o. cons_option o (filter_map f xs)) hs.0 ∙ ap (λ rest. cons_option (g x) rest) (filter_map-same f g xs hs.1)
+
+pub slice_get_inside : {X : Type 0} (xs : List X) (k : ℕ) → k < length xs → (x : X) × (slice_get xs k ≡ Some x)
+slice_get_inside [] k h = absurd (omega arith)
+slice_get_inside (x ∷ xs) zero h = (x, refl)
+slice_get_inside (x ∷ xs) (suc k) h = slice_get_inside xs k (omega arith)
+
+pub take_next : {X : Type 0} (xs : List X) (k : ℕ) (x : X) → slice_get xs k ≡ Some x → take (suc k) xs ≡ take k xs ++ x ∷ []
+take_next [] k x h = absurd (none-some x h)
+take_next (y ∷ xs) zero x h = ap (λ z. z ∷ []) (same_Some y x h)
+take_next (y ∷ xs) (suc k) x h = ap (λ rest. y ∷ rest) (take_next xs k x h)
+
+-- a value of an option that has one
+pub some_and : {X : Type 0} (o : Option X) (P : X → Type 0) → IsSomeAnd o P → (x : X) × (o ≡ Some x) × P x
+some_and None P h = absurd h
+some_and (Some x) P h = (x, refl, h)
+
+pub and_then_some : {X Y : Type 0} (f : X → Option Y) (o : Option X) (y : Y) → option_and_then f o ≡ Some y → (x : X) × (o ≡ Some x) × (f x ≡ Some y)
+and_then_some f None y h = absurd (none-some y h)
+and_then_some f (Some x) y h = (x, refl, h)
+
+or_true : (b : Bool) → (b || true) ≡ true
+or_true true = refl
+or_true false = refl
+
+-- the list has the number
+pub any_at : (xs : List ℕ) (k n : ℕ) → slice_get xs k ≡ Some n → list_any (λ x. x == n) xs ≡ true
+any_at [] k n h = absurd (none-some n h)
+any_at (x ∷ xs) zero n h = ap (λ b. b || list_any (λ x. x == n) xs) (eq-eqb x n (same_Some x n h))
+any_at (x ∷ xs) (suc k) n h = ap (λ b. (x == n) || b) (any_at xs k n h) ∙ or_true (x == n)
+
+Each-range : (from n : ℕ) → Each (λ q. (from ≤ q) × (q < from + n)) (range_with_len from n)
+Each-range from zero = tt
+Each-range from (suc n) =
+    ((omega arith, omega arith),
+    Each-map (λ q. (from + 1 ≤ q) × (q < from + 1 + n)) (λ q. (from ≤ q) × (q < from + suc n)) (λ q h. (omega (arith, h.0), omega (arith, h.1))) (range_with_len (from + 1) n) (Each-range (from + 1) n))
+
+-- a number that a filter of a range contains
+pub filtered_range : (p : ℕ → Bool) (from n q : ℕ) → Contains (filter p (range_with_len from n)) q → (from ≤ q) × (q < from + n) × (p q ≡ true)
+filtered_range p from n q (k, within, at) =
+    let Range : ℕ → Type 0 = λ q. (from ≤ q) × (q < from + n) in
+    let found : Range (get_or (filter p (range_with_len from n)) k q) × (p (get_or (filter p (range_with_len from n)) k q) ≡ true) =
+        Each-All (λ q. Range q × (p q ≡ true)) (filter p (range_with_len from n)) (Each-filter Range p (range_with_len from n) (Each-range from n)) k q within in
+    let here : Range q × (p q ≡ true) = subst (λ (x : ℕ). Range x × (p x ≡ true)) at found in
+    (here.0.0, here.0.1, here.1)
+
+pub take_whole : {X : Type 0} (n : ℕ) (xs : List X) → length xs ≤ n → take n xs ≡ xs
+take_whole zero [] h = refl
+take_whole zero (x ∷ xs) h = absurd (omega arith)
+take_whole (suc n) [] h = refl
+take_whole (suc n) (x ∷ xs) h = ap (λ rest. x ∷ rest) (take_whole n xs (omega arith))
