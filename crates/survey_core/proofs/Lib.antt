@@ -3,3 +3,4 @@ pub mod StandingLemmas
 pub mod CitedLemmas
 pub mod SoundLemmas
 pub mod LawLemmas
+pub mod TableLemmas

@@ -1,5 +1,5 @@
 -- What the marks of classes and questions say of a history, for the private functions that keep them.
-use Rattle.std.specs.Prelude.{◌≡◌, ◌⊎◌, ℕ, ◌+◌, ◌*◌, ◌<◌, ◌≤◌, min, max, Bool, true, false, not, ◌&&◌, ◌||◌, ◌==◌, nat_lt, nat_le, if◌then◌else◌, IsTrue, IsFalse, List, [], ◌∷◌, length, map, filter, count_by, slice_get, Some}
+use Rattle.std.specs.Prelude.{◌≡◌, ℕ, ◌+◌, ◌<◌, ◌≤◌, min, max, Bool, true, false, ◌||◌, ◌==◌, nat_lt, nat_le, if◌then◌else◌, IsTrue, IsFalse, List, [], ◌∷◌, length, map, count_by, slice_get, slice_set, Some}
 use Rattle.std.specs.Option.{option_map_or}
 use Rattle.std.specs.List.{flat_map}
 use Rattle.farkas_check.specs.declared.cites.Cite.{Cite}
@@ -12,7 +12,6 @@ use Rattle.survey_core.specs.declared.marks.Ending.{Ending}
 use Rattle.survey_core.specs.declared.marks.Ending.TheVariants.{Open, Committed, Closed}
 use Rattle.survey_core.specs.declared.marks.Mark.{Mark}
 use Rattle.survey_core.specs.declared.marks.Question.{Question}
-use Rattle.survey_core.specs.declared.marks.Marks.{Marks}
 use Rattle.survey_core.specs.Kinds.{is_commit, commits, closes}
 use Rattle.survey_core.specs.Histories.{standing, issued, is_issued, commits_class}
 
@@ -81,11 +80,20 @@ marked_endings Open = []
 marked_endings (Committed level) = Committed level ∷ []
 marked_endings (Closed level) = Closed level ∷ []
 
+-- what is kept of a history: a mark of each class, by its place, and of each question, by its number
+pub record Table : Type 0 where
+  pub classes : List Mark
+  pub questions : List Question
+
 -- the ranking is one
 abbrev pub is_ranking : Ranking → Bool
 is_ranking Unranked = false
 is_ranking (Eliminated level) = true
 is_ranking (CommittedBy level) = true
+
+-- the class is ranked
+abbrev pub is_ranked_mark : Mark → Bool
+is_ranked_mark mark = is_ranking mark.ranking
 
 -- the class is ranked or issued
 abbrev pub is_settled : Mark → Bool
@@ -97,11 +105,67 @@ is_open Open = true
 is_open (Committed level) = false
 is_open (Closed level) = false
 
+-- the question is open
+abbrev pub is_open_mark : Question → Bool
+is_open_mark question = is_open question.ending
+
+-- the first so many classes are ranked or issued
+abbrev pub AreSettled : List Mark → ℕ → Type 0
+AreSettled classes count = (k : ℕ) (mark : Mark) → k < count → slice_get classes k ≡ Some mark → IsTrue (is_settled mark)
+
+-- a table, and the counts that are kept beside it
+pub record IsTable (table : Table) (room ranked open_count settled : ℕ) : Type 0 where
+  pub few : length table.classes ≤ 16384
+  pub room_for_all : length table.classes ≤ room
+  pub asked_count : count_by (λ mark. mark.issued) table.classes ≡ length table.questions
+  pub ranked_count : count_by is_ranked_mark table.classes ≡ ranked
+  pub open_questions : count_by is_open_mark table.questions ≡ open_count
+  pub front : AreSettled table.classes settled
+  pub next : (mark : Mark) → slice_get table.classes settled ≡ Some mark → IsFalse (is_settled mark)
+  pub within : settled ≤ length table.classes
+
+-- a class that is neither ranked nor issued
+abbrev pub unmarked : Mark
+unmarked = record { ranking = Unranked; issued = false }
+
+-- the classes, with this one ranked
+abbrev pub with_ranking : List Mark → ℕ → Ranking → List Mark
+with_ranking classes k ranking = slice_set classes k (record { ranking = ranking; issued = option_map_or (λ mark. mark.issued) (slice_get classes k) false })
+
+-- the classes, with this one issued
+abbrev pub with_issued : List Mark → ℕ → List Mark
+with_issued classes k = slice_set classes k (record { ranking = option_map_or (λ mark. mark.ranking) (slice_get classes k) Unranked; issued = true })
+
+-- the questions, with this one ended
+abbrev pub with_ending : List Question → ℕ → Ending → List Question
+with_ending questions k ending = slice_set questions k (record { place = option_map_or (λ question. question.place) (slice_get questions k) 0; ending = ending })
+
+-- what is left of a ranking without this answer and later ones
+abbrev pub left_ranking : ℕ → Ranking → Ranking
+left_ranking answer Unranked = Unranked
+left_ranking answer (Eliminated level) = if nat_lt level answer then Eliminated level else Unranked
+left_ranking answer (CommittedBy level) = if nat_lt level answer then CommittedBy level else Unranked
+
+abbrev pub left_mark : ℕ → Mark → Mark
+left_mark answer mark = record { ranking = left_ranking answer mark.ranking; issued = mark.issued }
+
+-- and of an ending
+abbrev pub left_ending : ℕ → Ending → Ending
+left_ending answer Open = Open
+left_ending answer (Committed level) = if nat_lt level answer then Committed level else Open
+left_ending answer (Closed level) = if nat_lt level answer then Closed level else Open
+
+abbrev pub left_question : ℕ → Question → Question
+left_question answer question = record { place = question.place; ending = left_ending answer question.ending }
+
 -- a Commit that is one of the first so many answers
-abbrev pub is_answer_up_to : ℕ → Ranking → Bool
-is_answer_up_to most Unranked = false
-is_answer_up_to most (Eliminated level) = false
-is_answer_up_to most (CommittedBy level) = nat_le level most
+abbrev pub is_number_up_to : ℕ → Ranking → Bool
+is_number_up_to most Unranked = false
+is_number_up_to most (Eliminated level) = false
+is_number_up_to most (CommittedBy level) = nat_le level most
+
+abbrev pub is_answer_up_to : ℕ → Mark → Bool
+is_answer_up_to most mark = is_number_up_to most mark.ranking
 
 -- what a class's mark says
 pub record IsMark (history : List Event) (place : ℕ) (mark : Mark) : Type 0 where
@@ -112,15 +176,10 @@ pub record IsMark (history : List Event) (place : ℕ) (mark : Mark) : Type 0 wh
 pub record IsQuestionMark (history : List Event) (number : ℕ) (question : Question) : Type 0 where
   pub ending : endings number (resting history) ≡ marked_endings question.ending
 
--- the marks of a history of so many classes, with so many answers
-pub record AreMarks (classes answers : ℕ) (history : List Event) (marks : Marks) : Type 0 where
-  pub len : length marks.classes.items ≡ classes
-  pub each_class : (k : ℕ) (mark : Mark) → slice_get marks.classes.items k ≡ Some mark → IsMark history (k + 1) mark
-  pub places : map (λ question. question.place) marks.questions.items ≡ issued history
-  pub each_question : (k : ℕ) (question : Question) → slice_get marks.questions.items k ≡ Some question → IsQuestionMark history (k + 1) question
-  pub asked_count : count_by (λ mark. mark.issued) marks.classes.items ≡ length marks.questions.items
-  pub answer_count : (most : ℕ) → count_by (λ mark. is_answer_up_to most mark.ranking) marks.classes.items ≡ min most answers
-  pub ranked : count_by (λ mark. is_ranking mark.ranking) marks.classes.items ≡ marks.ranked
-  pub open_count : count_by (λ question. is_open question.ending) marks.questions.items ≡ marks.open
-  pub settled : (k : ℕ) (mark : Mark) → k < marks.settled → slice_get marks.classes.items k ≡ Some mark → IsTrue (is_settled mark)
-  pub unsettled : (mark : Mark) → slice_get marks.classes.items marks.settled ≡ Some mark → IsFalse (is_settled mark)
+-- the table of a history with so many answers
+pub record IsTableOf (listed : Listed) (history : List Event) (answers : ℕ) (table : Table) : Type 0 where
+  pub len : length table.classes ≡ length listed.classes
+  pub each_class : (k : ℕ) (mark : Mark) → slice_get table.classes k ≡ Some mark → IsMark history (k + 1) mark
+  pub places : map (λ question. question.place) table.questions ≡ issued history
+  pub each_question : (k : ℕ) (question : Question) → slice_get table.questions k ≡ Some question → IsQuestionMark history (k + 1) question
+  pub answer_count : (most : ℕ) → count_by (is_answer_up_to most) table.classes ≡ min most answers
