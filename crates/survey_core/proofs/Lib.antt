@@ -4,3 +4,4 @@ pub mod CitedLemmas
 pub mod SoundLemmas
 pub mod LawLemmas
 pub mod TableLemmas
+pub mod ReadLemmas
