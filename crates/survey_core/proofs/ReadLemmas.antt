@@ -24,7 +24,7 @@ use Rattle.survey_core.specs.declared.marks.Mark.{Mark}
 use Rattle.survey_core.specs.declared.marks.Question.{Question}
 use Rattle.survey_core.specs.Kinds.{eliminates, commits, closes}
 use Rattle.survey_core.specs.Histories.{standing, issued, is_issued, class_at, class_of, place_of, answer_of, committed, ends, is_unended, open_questions, IsOpenQuestion, is_eliminated, commits_class, is_committed, is_ranked}
-use Rattle.survey_core.specs.Marked.{Resting, numbered, resting, ranking_by, rankings, marked_rankings, ending_by, endings, marked_endings, is_ranking, is_open, is_open_mark, IsMark, IsQuestionMark}
+use Rattle.survey_core.specs.Marked.{Resting, numbered, resting, ranking_by, rankings, marked_rankings, ending_by, endings, marked_endings, is_ranking, is_elimination, is_open, is_open_mark, IsMark, IsQuestionMark}
 use Rattle.survey_core.proofs.ListSteps.{Each, Each-All, and_then_some}
 use Rattle.survey_core.proofs.StandingLemmas.{step}
 
@@ -40,11 +40,6 @@ any_numbered p before [] = refl
 any_numbered p before (event ∷ later) = ap (λ b. p event || b) (any_numbered p (before + step event) later)
 
 -- ---- classes
-abbrev pub is_elimination : Ranking → Bool
-is_elimination Unranked = false
-is_elimination (Eliminated level) = true
-is_elimination (CommittedBy level) = false
-
 abbrev pub is_commitment : Ranking → Bool
 is_commitment Unranked = false
 is_commitment (Eliminated level) = false

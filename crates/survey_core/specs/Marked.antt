@@ -1,9 +1,10 @@
 -- What the marks of classes and questions say of a history, for the private functions that keep them.
-use Rattle.std.specs.Prelude.{◌≡◌, ℕ, ◌+◌, ◌<◌, ◌≤◌, min, max, Bool, true, false, ◌||◌, ◌==◌, nat_lt, nat_le, if◌then◌else◌, IsTrue, IsFalse, List, [], ◌∷◌, length, map, count_by, slice_get, slice_set, Some}
+use Rattle.std.specs.Prelude.{◌≡◌, ℕ, ◌+◌, ◌*◌, ◌<◌, ◌≤◌, min, max, Bool, true, false, ◌||◌, ◌==◌, nat_lt, nat_le, if◌then◌else◌, IsTrue, IsFalse, List, [], ◌∷◌, length, map, count_by, slice_get, slice_set, Some}
 use Rattle.std.specs.Option.{option_map_or}
 use Rattle.std.specs.List.{flat_map}
 use Rattle.farkas_check.specs.declared.cites.Cite.{Cite}
-use Rattle.pair_enumeration.specs.Listed.{Listed}
+use Rattle.pair_enumeration.specs.Listed.{Listed, IsListed}
+use Rattle.answer_rows.specs.Room.{AnswersWithRoom, room_of}
 use Rattle.survey_core.specs.declared.events.Event.{Event}
 use Rattle.survey_core.specs.declared.events.Event.TheVariants.{Eliminate, Issue, Commit, Close, Withdraw}
 use Rattle.survey_core.specs.declared.marks.Ranking.{Ranking}
@@ -13,7 +14,8 @@ use Rattle.survey_core.specs.declared.marks.Ending.TheVariants.{Open, Committed,
 use Rattle.survey_core.specs.declared.marks.Mark.{Mark}
 use Rattle.survey_core.specs.declared.marks.Question.{Question}
 use Rattle.survey_core.specs.Kinds.{is_commit, commits, closes}
-use Rattle.survey_core.specs.Histories.{standing, issued, is_issued, commits_class}
+use Rattle.survey_core.specs.Histories.{standing, issued, is_issued, committed, commits_class, withdrawals}
+use Rattle.survey_core.specs.Legal.{IsLegal}
 
 -- the greatest number of a cited answer; 0 where none is cited
 abbrev pub greatest_cited : List Cite → ℕ
@@ -90,6 +92,12 @@ abbrev pub is_ranking : Ranking → Bool
 is_ranking Unranked = false
 is_ranking (Eliminated level) = true
 is_ranking (CommittedBy level) = true
+
+-- it is an elimination
+abbrev pub is_elimination : Ranking → Bool
+is_elimination Unranked = false
+is_elimination (Eliminated level) = true
+is_elimination (CommittedBy level) = false
 
 -- the class is ranked
 abbrev pub is_ranked_mark : Mark → Bool
@@ -183,3 +191,17 @@ pub record IsTableOf (listed : Listed) (history : List Event) (answers : ℕ) (t
   pub places : map (λ question. question.place) table.questions ≡ issued history
   pub each_question : (k : ℕ) (question : Question) → slice_get table.questions k ≡ Some question → IsQuestionMark history (k + 1) question
   pub answer_count : (most : ℕ) → count_by (is_answer_up_to most) table.classes ≡ min most answers
+
+-- what a `Core` keeps
+pub record IsKept (listed : Listed) (history : List Event) (answers : AnswersWithRoom) (table : Table) (withdrawn room : ℕ) : Type 0 where
+  pub model : IsListed listed
+  pub legal : IsLegal listed history
+  pub answered : answers.answers ≡ committed listed.classes history
+  pub room_for_answers : length listed.classes ≤ room_of answers
+  pub table_of : IsTableOf listed history (length answers.answers) table
+  pub few_questions : length table.questions ≤ length table.classes
+  pub withdrawals_made : withdrawn ≡ withdrawals history
+  pub unspent : 3 * length listed.classes + 2 * length listed.classes * withdrawn + withdrawn ≤ 131072
+  pub short : length history + count_by is_open_mark table.questions + length answers.answers
+    ≤ 2 * length table.questions + count_by is_ranked_mark table.classes + withdrawn * (2 * length listed.classes + 1)
+  pub room_for_events : 131072 ≤ room

@@ -3,7 +3,7 @@ ghost use Rattle.std.specs.Prelude.{◌≡◌, ◌↔◌, ◌⊎◌, ◌+◌, �
 ghost use Rattle.survey_core.specs.declared.marks.Mark.{Mark};
 ghost use Rattle.survey_core.specs.declared.marks.Question.{Question};
 ghost use Rattle.survey_core.specs.declared.marks.Ending.TheVariants.{Open as StillOpen};
-ghost use Rattle.survey_core.specs.Marked.{unmarked, is_ranking, is_settled, is_open, is_ranked_mark, is_open_mark, with_ranking, with_issued, with_ending, left_ranking, left_ending, left_mark, left_question, AreSettled};
+ghost use Rattle.survey_core.specs.Marked.{unmarked, is_ranking, is_elimination, is_settled, is_open, is_ranked_mark, is_open_mark, with_ranking, with_issued, with_ending, left_ranking, left_ending, left_mark, left_question, AreSettled};
 
 use std::alloc::{AllocError as NoMemory, Global};
 
@@ -24,6 +24,15 @@ impl Ranking {
         match self {
             Ranking::Unranked => false,
             _ => true,
+        }
+    }
+
+    pub fn is_eliminated(&self) -> bool
+        ensures { result ≡ is_elimination self.now }
+    {
+        match self {
+            Ranking::Eliminated { .. } => true,
+            _ => false,
         }
     }
 
@@ -200,6 +209,7 @@ impl Marks {
         requires before { (mark : Mark) → slice_get self.old.classes (place - 1) ≡ Some mark → IsFalse mark.issued }
         ensures classes { self.new.classes ≡ with_issued self.old.classes (place - 1) }
         ensures questions { self.new.questions ≡ self.old.questions ++ record { place = place; ending = StillOpen } ∷ [] }
+        ensures few { length self.new.questions ≤ length self.new.classes }
     {
         let mark = &mut self.classes[place as usize - 1];
         mark.issued = true;
