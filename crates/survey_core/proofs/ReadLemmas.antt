@@ -7,7 +7,7 @@ use Rattle.std.proofs.lemmas.List.Folds.{list_any-append}
 use Rattle.std.proofs.lemmas.List.Sums.{sum_by-cons}
 use Rattle.std.proofs.lemmas.Option.{none-some, same_Some, slice_get-map, slice_get_within, get_or_from_slice_get}
 use Rattle.std.proofs.lemmas.Bool.{cases_lt}
-use Rattle.std.proofs.lemmas.List.{length-map}
+use Rattle.criteria_model.proofs.RowLemmas.{length-map}
 use Rattle.criteria_model.specs.declared.pairs.Side.{Side}
 use Rattle.criteria_model.specs.declared.pairs.Pair.{Pair}
 use Rattle.criteria_model.specs.declared.pairs.Answer.{Answer}
@@ -146,7 +146,7 @@ pub open_count : (history : List Event) (questions : List Question) → map (λ 
     → ((k : ℕ) (question : Question) → slice_get questions k ≡ Some question → IsQuestionMark history (k + 1) question)
     → length (open_questions history) ≡ count_by is_open_mark questions
 open_count history questions places each =
-    ap (λ n. length (filter (is_unended history) (range_with_len 1 n))) (sym (ap length places) ∙ length-map questions)
+    ap (λ n. length (filter (is_unended history) (range_with_len 1 n))) (sym (ap length places) ∙ length-map (λ question. question.place) questions)
     ∙ length_filter_range (is_unended history) is_open_mark 1 questions
     (λ k question at. ap (λ n. is_unended history n) (omega arith) ∙ question_unended history (k + 1) question (each k question at))
 
