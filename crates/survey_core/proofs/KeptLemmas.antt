@@ -1,5 +1,5 @@
 -- What a `Core` answers from its marks.
-use Rattle.std.proofs.Common.{◌≡◌, ◌⊎◌, ◌↔◌, ℕ, zero, suc, ◌+◌, ◌-◌, ◌<◌, ◌≤◌, Bool, true, false, cond, ◌||◌, IsTrue, IsFalse, List, [], ◌∷◌, ◌++◌, length, map, All, Some, None, slice_get, IsSomeAnd, Option, refl, ap, sym, subst, ◌∙◌, inl, inr, arith}
+use Rattle.std.proofs.Common.{◌≡◌, ◌⊎◌, ◌↔◌, ℕ, zero, suc, ◌+◌, ◌-◌, ◌<◌, ◌≤◌, Bool, true, false, cond, ◌||◌, IsTrue, IsFalse, List, [], ◌∷◌, ◌++◌, length, map, All, Some, None, slice_get, IsSomeAnd, Option, ℤ, refl, ap, sym, subst, ◌∙◌, inl, inr, arith}
 use Rattle.std.specs.List.{count_by}
 use Rattle.std.proofs.lemmas.List.Sums.{sum_by-cons}
 use Rattle.std.proofs.lemmas.Option.{slice_get_within, slice_get-map, get_or_from_slice_get}
@@ -7,15 +7,22 @@ use Rattle.std.specs.Option.{option_map}
 use Rattle.criteria_model.proofs.RowLemmas.{length-map}
 use Rattle.answer_rows.specs.Room.{AnswersWithRoom}
 use Rattle.criteria_model.specs.declared.pairs.Answer.{Answer}
+use Rattle.criteria_model.specs.declared.pairs.Pair.{Pair}
+use Rattle.criteria_model.specs.declared.pairs.Side.{Side}
+use Rattle.criteria_model.specs.Criteria.{Criteria}
 use Rattle.criteria_model.specs.Pairs.{IsFit}
+use Rattle.criteria_model.specs.Answers.{Ranks, Meets, MeetsAll, Opens}
+use Rattle.farkas_check.specs.declared.combination.Combination.{Combination}
+use Rattle.farkas_check.specs.declared.flaws.Flaw.{Flaw}
+use Rattle.farkas_check.specs.Flaws.{IsFirstFlaw}
 use Rattle.pair_enumeration.specs.Listed.{Listed}
 use Rattle.survey_core.specs.declared.events.Event.{Event}
 use Rattle.survey_core.specs.declared.marks.Mark.{Mark}
 use Rattle.survey_core.specs.declared.marks.Question.{Question}
-use Rattle.survey_core.specs.Histories.{issued, is_issued, place_of, committed, is_unended, open_questions, IsOpenQuestion, is_eliminated, is_ranked}
-use Rattle.survey_core.specs.Legal.{IsPlace, AreEarlierAsked}
+use Rattle.survey_core.specs.Histories.{issued, is_issued, place_of, class_at, committed, is_unended, open_questions, IsOpenQuestion, is_eliminated, is_ranked}
+use Rattle.survey_core.specs.Legal.{IsPlace, AreEarlierAsked, OpensPlace}
 use Rattle.survey_core.specs.Marked.{Table, is_ranking, is_elimination, is_settled, is_open, is_ranked_mark, is_open_mark, AreSettled, IsMark, IsQuestionMark, IsKept}
-use Rattle.survey_core.proofs.ListSteps.{slice_get_inside, Each, Each-All, filtered_range}
+use Rattle.survey_core.proofs.ListSteps.{slice_get_inside, Each, Each-append, Each-All, All-Each, Each-front, Each-back, some_at, at_some, filtered_range}
 use Rattle.survey_core.proofs.SoundLemmas.{IsSound, sound_history}
 use Rattle.survey_core.proofs.TableLemmas.{count_less}
 use Rattle.survey_core.proofs.ReadLemmas.{mark_eliminated, mark_ranked, question_unended, open_count, contains_filtered, answers_fit}
@@ -48,6 +55,23 @@ count_all p (x ∷ xs) h =
     let here : p x ≡ true = h 0 x refl in
     let f : Bool → ℕ = λ b. cond b 1 0 in
     omega (arith, sum_by-cons (λ y. cond (p y) 1 0) x xs, ap f here, count_all p xs (λ k y at. h (suc k) y at))
+
+-- one more answer is met
+meets_push : (levels : List ℕ) (answers : List Answer) (given : Answer) (point : List ℤ) → MeetsAll levels answers point → Meets levels point given
+    → MeetsAll levels (answers ++ given ∷ []) point
+meets_push levels answers given point meets ranks = record {
+  vector = meets.vector;
+  each =
+    Each-All (Meets levels point) (answers ++ given ∷ [])
+    (Each-append (Meets levels point) answers (given ∷ []) (All-Each (Meets levels point) answers meets.each) (ranks, tt));
+}
+
+meets_pop : (levels : List ℕ) (answers : List Answer) (given : Answer) (point : List ℤ) → MeetsAll levels (answers ++ given ∷ []) point
+    → MeetsAll levels answers point × Meets levels point given
+meets_pop levels answers given point meets =
+    let each : Each (Meets levels point) (answers ++ given ∷ []) = All-Each (Meets levels point) (answers ++ given ∷ []) meets.each in
+    (record { vector = meets.vector; each = Each-All (Meets levels point) answers (Each-front (Meets levels point) answers (given ∷ []) each) },
+    (Each-back (Meets levels point) answers (given ∷ []) each).0)
 
 module _ (listed : Listed) (history : List Event) (answers : AnswersWithRoom) (table : Table) (withdrawn room : ℕ)
   (kept : IsKept listed history answers table withdrawn room) where
@@ -151,3 +175,41 @@ module _ (listed : Listed) (history : List Event) (answers : AnswersWithRoom) (t
       let within : number - 1 < length (issued history) = slice_get_within (issued history) (number - 1) question.place asks in
       subst (λ (n : ℕ). IsPlace listed n) (get_or_from_slice_get (issued history) (number - 1) question.place 0 asks)
       (Each-All (IsPlace listed) (issued history) sound.places (number - 1) 0 within)
+
+  -- ---- answers and the class at a place
+  abbrev levels : List ℕ
+  levels = listed.criteria.levels
+
+  abbrev Stands : ℕ → Pair → Type 0
+  Stands place pair = slice_get listed.classes (place - 1) ≡ Some pair
+
+  pub flaw_at : (model : Criteria) (place : ℕ) (pair : Pair) (combination : Combination) (verdict : Side) (flaw : Option Flaw) → model ≡ listed.criteria → Stands place pair
+      → IsFirstFlaw model.levels answers.answers combination pair verdict flaw
+      → IsSomeAnd (class_at listed.classes place) (λ pair. IsFirstFlaw levels (committed listed.classes history) combination pair verdict flaw)
+  flaw_at model place pair combination verdict flaw same at first =
+      some_at (class_at listed.classes place) (λ pair. IsFirstFlaw levels (committed listed.classes history) combination pair verdict flaw) pair at
+      (subst (λ (l : List Answer). IsFirstFlaw levels l combination pair verdict flaw) kept.answered
+      (subst (λ (m : Criteria). IsFirstFlaw m.levels answers.answers combination pair verdict flaw) same first))
+
+  pub opens_at : (model : Criteria) (place : ℕ) (pair : Pair) (plus minus : List ℤ) (r : Bool) → model ≡ listed.criteria → Stands place pair
+      → IsTrue r ↔ Opens model.levels answers.answers pair plus minus → IsTrue r ↔ OpensPlace listed history place plus minus
+  opens_at model place pair plus minus r same at exactly =
+      let here : IsTrue r ↔ Opens levels (committed listed.classes history) pair plus minus =
+          subst (λ (l : List Answer). IsTrue r ↔ Opens levels l pair plus minus) kept.answered
+          (subst (λ (m : Criteria). IsTrue r ↔ Opens m.levels answers.answers pair plus minus) same exactly) in
+      let Opened : Pair → Type 0 = λ pair. Opens levels (committed listed.classes history) pair plus minus in
+      ((λ h. some_at (class_at listed.classes place) Opened pair at (here.0 h)), (λ h. here.1 (at_some (class_at listed.classes place) Opened pair at h)))
+
+  pub meets_at : (model : Criteria) (place : ℕ) (pair : Pair) (side : Side) (point : List ℤ) → model ≡ listed.criteria → Stands place pair
+      → (MeetsAll model.levels answers.answers point × Ranks model.levels point pair side)
+        ↔ IsSomeAnd (class_at listed.classes place) (λ pair. MeetsAll levels (committed listed.classes history ++ record { pair = pair; side = side } ∷ []) point)
+  meets_at model place pair side point same at =
+      let With : List Answer → Pair → Type 0 = λ l pair. MeetsAll levels (l ++ record { pair = pair; side = side } ∷ []) point in
+      let Both : Criteria → Type 0 =
+          λ m. (MeetsAll m.levels answers.answers point × Ranks m.levels point pair side) ↔ IsSomeAnd (class_at listed.classes place) (With (committed listed.classes history)) in
+      let given : Answer = record { pair = pair; side = side } in
+      subst Both (sym same)
+      ((λ h. some_at (class_at listed.classes place) (With (committed listed.classes history)) pair at
+        (subst (λ (l : List Answer). With l pair) kept.answered (meets_push levels answers.answers given point h.0 h.1))),
+      (λ h. meets_pop levels answers.answers given point
+        (subst (λ (l : List Answer). With l pair) (sym kept.answered) (at_some (class_at listed.classes place) (With (committed listed.classes history)) pair at h))))

@@ -139,3 +139,17 @@ take_whole zero [] h = refl
 take_whole zero (x ∷ xs) h = absurd (omega arith)
 take_whole (suc n) [] h = refl
 take_whole (suc n) (x ∷ xs) h = ap (λ rest. x ∷ rest) (take_whole n xs (omega arith))
+
+pub some_at : {X : Type 0} (o : Option X) (P : X → Type 0) (x : X) → o ≡ Some x → P x → IsSomeAnd o P
+some_at o P x at h = subst (λ o. IsSomeAnd o P) (sym at) h
+
+pub at_some : {X : Type 0} (o : Option X) (P : X → Type 0) (x : X) → o ≡ Some x → IsSomeAnd o P → P x
+at_some o P x at h = subst (λ o. IsSomeAnd o P) at h
+
+pub Each-front : {X : Type 0} (P : X → Type 0) (xs ys : List X) → Each P (xs ++ ys) → Each P xs
+Each-front P [] ys hs = tt
+Each-front P (x ∷ xs) ys hs = (hs.0, Each-front P xs ys hs.1)
+
+pub Each-back : {X : Type 0} (P : X → Type 0) (xs ys : List X) → Each P (xs ++ ys) → Each P ys
+Each-back P [] ys hs = hs
+Each-back P (x ∷ xs) ys hs = Each-back P xs ys hs.1
