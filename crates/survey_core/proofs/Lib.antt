@@ -6,3 +6,4 @@ pub mod LawLemmas
 pub mod TableLemmas
 pub mod ReadLemmas
 pub mod KeptLemmas
+pub mod NewLemmas
