@@ -1,40 +1,65 @@
 -- Adding a multiple of a row, one place after another, and how large the sums grow.
-use Rattle.std.proofs.Common.{◌≡◌, ℕ, zero, suc, ◌+◌, ◌-◌, ◌*◌, ◌^◌, ◌<◌, ◌≤◌, List, [], ◌∷◌, length, take, get_or, set, All, ℤ, pos, ◌+ℤ◌, ◌*ℤ◌, unsigned_abs, Option, Some, None, IfSome, slice_get, inl, inr, subst, refl, ap, sym, ◌∙◌, arith}
+use Rattle.std.proofs.Common.{◌≡◌, ℕ, zero, suc, ◌+◌, ◌-◌, ◌*◌, ◌^◌, ◌<◌, ◌≤◌, List, [], ◌∷◌, ◌++◌, length, take, drop, replicate, drop-drop, get_or, set, All, ℤ, pos, ◌+ℤ◌, ◌*ℤ◌, unsigned_abs, Some, slice_get, refl, ap, ap₂, sym, ◌∙◌, arith}
 use Rattle.std.specs.Option.{option_map_or}
-use Rattle.std.proofs.lemmas.Int.{unsigned_abs-mul}
+use Rattle.std.proofs.lemmas.Int.{ints, unsigned_abs-mul}
 use Rattle.std.proofs.Math.Nat.{mul-le-mul}
-use Rattle.std.proofs.lemmas.List.Elements.{All-cons, All-head, All-tail, All-nil, All-weaker}
-use Rattle.std.proofs.lemmas.List.Sums.{fold_more}
-use Rattle.std.proofs.lemmas.Option.{slice_get_cases}
+use Rattle.std.proofs.lemmas.List.Elements.{All-cons, All-head, All-tail, All-nil, All-weaker, All-take, All-drop}
+use Rattle.std.proofs.lemmas.List.Sums.{fold_more, sum_by_more, sum_by_more_le}
+use Rattle.std.proofs.lemmas.List.{length-take, length-drop, map-append}
 use Rattle.criteria_model.specs.declared.pairs.Answer.{Answer}
-use Rattle.criteria_model.specs.Rows.{plus, times}
-use Rattle.criteria_model.specs.Worth.{increments}
-use Rattle.criteria_model.specs.Pairs.{IsFit}
+use Rattle.criteria_model.specs.Rows.{plus, minus, times}
+use Rattle.criteria_model.specs.Worth.{increments, has, has_on}
 use Rattle.criteria_model.specs.Answers.{gain}
-use Rattle.criteria_model.proofs.GainLemmas.{length-gain}
+use Rattle.criteria_model.proofs.RowLemmas.{length-plus, length-minus, length-times}
+use Rattle.criteria_model.proofs.LevelLemmas.{length-has_on, length-minus-has, minus-has-take_more, has_on-by}
 use Rattle.farkas_check.specs.declared.cites.Cite.{Cite}
 use Rattle.farkas_check.specs.Sums.{cited_gain, total}
-use Rattle.farkas_check.specs.Proof.{IsThere}
-use Rattle.criteria_model.proofs.Integers.{unsigned_abs-add}
+use Rattle.criteria_model.proofs.Integers.{mul-zero, unsigned_abs-add}
 
 pub plus-nil : (a : List ℤ) → plus a [] ≡ a
 plus-nil [] = refl
 plus-nil (x ∷ a) = refl
 
--- the front of a row leaves the places behind it as they were
-pub plus-front_read : (a : List ℤ) (w : ℤ) (row : List ℤ) (i : ℕ) → i < length a → get_or (plus a (times w (take i row))) i (pos 0) ≡ get_or a i (pos 0)
-plus-front_read [] w row i k = absurd (omega (arith, k))
-plus-front_read (x ∷ a) w row zero k = refl
-plus-front_read (x ∷ a) w [] (suc i) k = refl
-plus-front_read (x ∷ a) w (y ∷ row) (suc i) k = plus-front_read a w row i (omega arith)
+-- a row leaves the places behind it as they were
+pub plus-read : (a r : List ℤ) (i : ℕ) → length r ≤ i → i < length a → get_or (plus a r) i (pos 0) ≡ get_or a i (pos 0)
+plus-read [] r i h k = absurd (omega (arith, k))
+plus-read (x ∷ a) [] i h k = refl
+plus-read (x ∷ a) (y ∷ r) zero h k = absurd (omega (arith, h))
+plus-read (x ∷ a) (y ∷ r) (suc i) h k = plus-read a r i (omega arith) (omega arith)
 
--- one place more of a row is one sum more
-pub plus-front_more : (a : List ℤ) (w : ℤ) (row : List ℤ) (i : ℕ) → i < length row → i < length a
-    → plus a (times w (take (suc i) row)) ≡ set (plus a (times w (take i row))) i (get_or a i (pos 0) +ℤ (w *ℤ get_or row i (pos 0)))
-plus-front_more [] w row i h k = absurd (omega (arith, k))
-plus-front_more (x ∷ a) w [] i h k = absurd (omega (arith, h))
-plus-front_more (x ∷ a) w (y ∷ row) zero h k = ap (λ rest. (x +ℤ (w *ℤ y)) ∷ rest) (plus-nil a)
-plus-front_more (x ∷ a) w (y ∷ row) (suc i) h k = ap (λ rest. (x +ℤ (w *ℤ y)) ∷ rest) (plus-front_more a w row i (omega arith) (omega arith))
+-- one place more of a row changes one sum more
+pub plus-push : (a r : List ℤ) (y : ℤ) → length r < length a → plus a (r ++ y ∷ []) ≡ set (plus a r) (length r) (get_or (plus a r) (length r) (pos 0) +ℤ y)
+plus-push [] r y h = absurd (omega (arith, h))
+plus-push (x ∷ a) [] y h = ap (λ rest. (x +ℤ y) ∷ rest) (plus-nil a)
+plus-push (x ∷ a) (z ∷ r) y h = ap (λ rest. (x +ℤ z) ∷ rest) (plus-push a r y (omega arith))
+
+pub plus-zeros : (a : List ℤ) (n : ℕ) → n ≤ length a → plus a (replicate n (pos 0)) ≡ a
+plus-zeros a zero h = plus-nil a
+plus-zeros [] (suc n) h = absurd (omega (arith, h))
+plus-zeros (x ∷ a) (suc n) h =
+    let same : x +ℤ pos 0 ≡ x = omega (arith, ints) in
+    ap₂ (λ y rest. y ∷ rest) same (plus-zeros a n (omega arith))
+
+pub times-zeros : (k : ℤ) (n : ℕ) → times k (replicate n (pos 0)) ≡ replicate n (pos 0)
+times-zeros k zero = refl
+times-zeros k (suc n) = ap₂ (λ y rest. y ∷ rest) (mul-zero k) (times-zeros k n)
+
+plus-split : (a s : List ℤ) → length s ≤ length a → plus a s ≡ plus (take (length s) a) s ++ drop (length s) a
+plus-split [] [] h = refl
+plus-split [] (y ∷ s) h = absurd (omega (arith, h))
+plus-split (x ∷ a) [] h = refl
+plus-split (x ∷ a) (y ∷ s) h = ap (λ rest. (x +ℤ y) ∷ rest) (plus-split a s (omega arith))
+
+-- a row r and then a row s behind it: s changes the places from the length of r on
+pub plus-behind : (a r s : List ℤ) → length r + length s ≤ length a
+    → plus a (r ++ s) ≡ take (length r) (plus a r) ++ (plus (take (length s) (drop (length r) (plus a r))) s ++ drop (length r + length s) (plus a r))
+plus-behind a [] s h =
+    let none : 0 + length s ≡ length s = omega arith in
+    rw (plus-nil a, none) (plus-split a s (omega (arith, h)))
+plus-behind [] (z ∷ r) s h = absurd (omega (arith, h))
+plus-behind (x ∷ a) (z ∷ r) s h =
+    let more : suc (length r) + length s ≡ suc (length r + length s) = omega arith in
+    rw more (ap (λ rest. (x +ℤ z) ∷ rest) (plus-behind a r s (omega arith)))
 
 -- a multiple of a row of -1, 0 and 1 makes sums larger by its factor at most
 pub plus-times_small : (a : List ℤ) (w : ℤ) (row : List ℤ) (b n : ℕ) → All (λ x. unsigned_abs x ≤ b) a → unsigned_abs w ≤ n → All (λ x. unsigned_abs x ≤ 1) row → length row ≤ length a
@@ -56,24 +81,8 @@ pub record AreTotals (levels : List ℕ) (answers : List Answer) (own : List ℤ
   pub sum : sums ≡ total levels answers own (take i cites)
   pub small : All (λ x. unsigned_abs x ≤ 2 ^ 96 * (i + 1)) sums
 
--- the answer of a number that is there
-pub there : (answers : List Answer) (number : ℕ) → 1 ≤ number → number ≤ length answers → (answer : Answer) × (number - 1 < length answers) × (slice_get answers (number - 1) ≡ Some answer) × (get_or answers (number - 1) answer ≡ answer)
-there answers number low high = elim (slice_get_cases answers (number - 1)).1 [ inl found ↦ found | inr past ↦ absurd (omega (arith, past.0)) ]
-
-pub length-cited_gain : (levels : List ℕ) (answers : List Answer) (cite : Cite) → IsThere answers cite → All (λ answer. IsFit levels answer.pair) answers → length (cited_gain levels answers cite) ≡ increments levels
-length-cited_gain levels answers cite is_there fit =
-    let (answer, within, is, at) = there answers cite.answer is_there.0 is_there.1 in
-    rw is (length-gain levels answer.pair answer.side (subst (λ (a : Answer). IsFit levels a.pair) at (fit (cite.answer - 1) answer within)))
-
-row_at : (levels : List ℕ) (found : Option Answer) (answer : Answer) (row : List ℤ) → found ≡ Some answer → IfSome found (λ a. row ≡ gain levels a.pair a.side) → row ≡ option_map_or (λ a. gain levels a.pair a.side) found []
-row_at levels None answer row is h = absurd (cc)
-row_at levels (Some a) answer row is h = h
-
--- the row of a cited answer is the cite's gain
-pub row_is_cited_gain : (levels : List ℕ) (answers : List Answer) (cite : Cite) (row : List ℤ) → IsThere answers cite → IfSome (slice_get answers (cite.answer - 1)) (λ a. row ≡ gain levels a.pair a.side) → row ≡ cited_gain levels answers cite
-row_is_cited_gain levels answers cite row is_there h =
-    let (answer, within, is, at) = there answers cite.answer is_there.0 is_there.1 in
-    row_at levels (slice_get answers (cite.answer - 1)) answer row is h
+pub cited_gain-there : (levels : List ℕ) (answers : List Answer) (cite : Cite) (answer : Answer) → slice_get answers (cite.answer - 1) ≡ Some answer → cited_gain levels answers cite ≡ gain levels answer.pair answer.side
+cited_gain-there levels answers cite answer found = ap (λ o. option_map_or (λ (a : Answer). gain levels a.pair a.side) o []) found
 
 pub AreTotals-none : (levels : List ℕ) (answers : List Answer) (own : List ℤ) (cites : List Cite) → All (λ x. unsigned_abs x < 2 ^ 96) own → AreTotals levels answers own cites 0 own
 AreTotals-none levels answers own cites small = record {
@@ -93,3 +102,75 @@ AreTotals-more levels answers own cites i sums d totals within weight unit len =
       omega
       (arith, plus-times_small sums (get_or cites i d).weight (cited_gain levels answers (get_or cites i d)) (2 ^ 96 * (i + 1)) (2 ^ 96) totals.small (omega (arith, weight)) unit len k e in_sums);
 }
+
+-- ---- criterion by criterion
+-- what the first criteria add, and how many increments they have
+pub record AreLeads (levels winner loser : List ℕ) (weight : ℤ) (before : List ℤ) (at place : ℕ) (sums : List ℤ) : Type 0 where
+  pub at_increments : at ≡ increments (take place levels)
+  pub sum : sums ≡ plus before (times weight (minus (has (take place levels) (take place winner)) (has (take place levels) (take place loser))))
+
+drop-plus : (a r : List ℤ) → length r ≤ length a → drop (length r) (plus a r) ≡ drop (length r) a
+drop-plus a [] h = ap (drop 0) (plus-nil a)
+drop-plus [] (y ∷ r) h = absurd (omega (arith, h))
+drop-plus (x ∷ a) (y ∷ r) h = drop-plus a r (omega arith)
+
+module _ (levels winner loser : List ℕ) (weight : ℤ) (before : List ℤ) (at place : ℕ) (sums : List ℤ) (leads : AreLeads levels winner loser weight before at place sums) (len : length before ≡ increments levels)
+    (winner_len : length winner ≡ length levels) (loser_len : length loser ≡ length levels) (within : place < length levels) where
+  -- the part that the first criteria add, and the part of the next
+  abbrev front : List ℤ
+  front = times weight (minus (has (take place levels) (take place winner)) (has (take place levels) (take place loser)))
+
+  abbrev next : List ℤ
+  next = times weight (minus (has_on (get_or levels place 0) (get_or winner place 0)) (has_on (get_or levels place 0) (get_or loser place 0)))
+
+  length-front : length front ≡ at
+  length-front =
+      length-times weight _
+      ∙ length-minus-has (take place levels) (take place winner) (take place loser) (simp length-take (omega (arith, winner_len))) (simp length-take (omega (arith, loser_len)))
+      ∙ sym leads.at_increments
+
+  length-next : length next ≡ get_or levels place 0 - 1
+  length-next =
+      omega (
+        arith,
+        length-times weight (minus (has_on (get_or levels place 0) (get_or winner place 0)) (has_on (get_or levels place 0) (get_or loser place 0))),
+        length-minus (has_on (get_or levels place 0) (get_or winner place 0)) (has_on (get_or levels place 0) (get_or loser place 0)),
+        length-has_on (get_or levels place 0) (get_or winner place 0),
+        length-has_on (get_or levels place 0) (get_or loser place 0),
+      )
+
+  -- the next criterion's increments are among the sums
+  pub next_within : at + (get_or levels place 0 - 1) ≤ length before
+  next_within = omega (arith, leads.at_increments, len, sum_by_more_le (λ n. n - 1) levels place 0 within)
+
+  next_at : at + (get_or levels place 0 - 1) ≡ increments (take (place + 1) levels)
+  next_at = omega (arith, leads.at_increments, sum_by_more (λ n. n - 1) levels place 0 within)
+
+  pub part_small : (b k : ℕ) → All (λ x. unsigned_abs x < b) before → All (λ x. unsigned_abs x < b) (take k (drop at sums))
+  part_small b k small =
+      let rest : drop at sums ≡ drop at before = rw (leads.sum, ← length-front) (drop-plus before front (omega (arith, length-front, next_within))) in
+      rw rest (All-take (λ x. unsigned_abs x < b) k (drop at before) (All-drop (λ x. unsigned_abs x < b) at before small))
+
+  -- what is added to the part, as the next part of the row
+  next_is : (k : ℕ) → k ≡ get_or levels place 0 - 1
+      → times weight (minus (has_on (length (take k (drop at sums)) + 1) (get_or winner place 0)) (has_on (length (take k (drop at sums)) + 1) (get_or loser place 0))) ≡ next
+  next_is k k_is =
+      let sums_len : length sums ≡ length before = ap length leads.sum ∙ omega (arith, length-plus before front, length-front, next_within) in
+      let part_len : length (take k (drop at sums)) ≡ k = simp (length-take, length-drop) (omega (arith, next_within)) in
+      let count_is : length (take k (drop at sums)) + 1 - 1 ≡ get_or levels place 0 - 1 = omega (arith, part_len) in
+      ap₂ (λ high low. times weight (minus high low)) (has_on-by _ (get_or levels place 0) (get_or winner place 0) count_is) (has_on-by _ (get_or levels place 0) (get_or loser place 0) count_is)
+
+  pub AreLeads-more : (part : List ℤ) (j k : ℕ) → j ≡ get_or levels place 0 - 1 → k ≡ get_or levels place 0 - 1
+      → part ≡ plus (take k (drop at sums)) (times weight (minus (has_on (length (take k (drop at sums)) + 1) (get_or winner place 0)) (has_on (length (take k (drop at sums)) + 1) (get_or loser place 0))))
+      → AreLeads levels winner loser weight before (at + j) (place + 1) (take at sums ++ (part ++ drop k (drop at sums)))
+  AreLeads-more part j k j_is k_is part_is = record {
+    at_increments = ap (λ steps. at + steps) j_is ∙ next_at;
+    sum =
+        let both : times weight (minus (has (take (place + 1) levels) (take (place + 1) winner)) (has (take (place + 1) levels) (take (place + 1) loser))) ≡ front ++ next =
+        rw (minus-has-take_more levels winner loser place within winner_len loser_len) (map-append (λ x. weight *ℤ x) _ _) in
+        let split = plus-behind before front next (omega (arith, length-front, length-next, next_within)) in
+        let parts : plus before (front ++ next) ≡ take at sums ++ (plus (take (get_or levels place 0 - 1) (drop at sums)) next ++ drop (at + (get_or levels place 0 - 1)) sums) =
+        rw (← leads.sum, length-front, length-next) at split in
+        let added : part ≡ plus (take k (drop at sums)) next = part_is ∙ ap (plus (take k (drop at sums))) (next_is k k_is) in
+        rw (added, drop-drop k at sums, k_is, both, parts);
+  }

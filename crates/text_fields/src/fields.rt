@@ -1,4 +1,4 @@
-ghost use Rattle.std.specs.Prelude.{◌≡◌, ◌↔◌, ℕ, ◌-◌, ◌^◌, ◌<◌, ◌≤◌, List, [], ◌++◌, length, drop, IsTrue, IfSome, if◌then◌else◌};
+ghost use Rattle.std.specs.Prelude.{◌≡◌, ◌↔◌, ℕ, ◌-◌, ◌^◌, ◌<◌, ◌≤◌, List, [], ◌++◌, length, drop, IsTrue, IfNone, IfSome, if◌then◌else◌};
 ghost use Rattle.text_fields.specs.Spelling.{IsCertificate, is_next};
 ghost use Rattle.text_fields.specs.Reading.{Gives, GivesList, word_at, number_at, certificate_at, list_at};
 
@@ -10,7 +10,8 @@ const CERTIFICATE_LIMIT: u128 = 1 << 96;
 
 /// Reads fields from the front of a text, one after the other.
 ///
-/// A read that answers `None` found no such field at the front; what is left then is unspecified.
+/// A read that answers `None` found no such field at the front; what is left then is unspecified, unless
+/// the call says more.
 #[derive(Drop)]
 pub struct Fields<'a> {
     rest: &'a [u8],
@@ -39,9 +40,10 @@ impl<'a> Fields<'a> {
         self.rest.is_empty()
     }
 
-    /// Reads this word.
+    /// Reads this word. Where another stands at the front, nothing is read.
     pub fn word(&mut self, word: &[u8]) -> Option<()>
-        ensures { Gives result self.new (word_at word.now self.old) }
+        ensures exact { Gives result self.new (word_at word.now self.old) }
+        ensures kept { IfNone result (self.new ≡ self.old) }
     {
         self.rest = self.rest.strip_prefix(word)?;
         Some(())

@@ -6,7 +6,7 @@ pub is_multiple-requires-clause-len : goal.is_multiple-requires-clause-len
 is_multiple-requires-clause-len c =
     omega (
       arith,
-      ap length (c.as_slice-2.ensures.value ∙ c.gain-gain.ensures),
+      ap length (c.as_slice-row.ensures.value ∙ c.gain-gain.ensures),
       length-gain c.args.model.now.levels c.args.pair.now c.args.verdict c.requires.pair_fits,
       ap length c.copy_from_slice.ensures.after,
       ap length c.as_slice-own.ensures.value,

@@ -1,0 +1,12 @@
+pub mod Arrangements
+pub mod Table
+pub mod Kept
+pub mod Values
+pub mod Signs
+pub mod PivotKept
+pub mod LineSteps
+pub mod Empty
+pub mod Sums
+pub mod SlackLine
+pub mod AddRow
+pub mod DropRow

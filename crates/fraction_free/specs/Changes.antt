@@ -1,0 +1,89 @@
+-- What the calls make of a dictionary.
+use Rattle.std.specs.Prelude.{ℕ, ◌+◌, ◌-◌, ◌^◌, ◌≡◌, ◌≢◌, ◌<◌, ◌≤◌, min, List, [], ◌∷◌, ◌++◌, length, take, slice_index, slice_index_or, slice_set, ℤ, pos, negsuc, neg_ℤ, ◌-ℤ◌, ◌*ℤ◌}
+use Rattle.std.specs.List.{range_with_len}
+use Rattle.fraction_free.specs.declared.loaded.LoadedRow.{LoadedRow}
+use Rattle.fraction_free.specs.Tableau.{Tableau, line_of}
+
+-- a count that rises by one, or stands at its last value
+abbrev pub next_count : ℕ → ℕ
+next_count count = min (count + 1) (2 ^ 64 - 1)
+
+-- a dictionary with no rows
+abbrev pub empty_tableau : ℕ → ℕ → ℕ → ℕ → ℕ → Tableau
+empty_tableau columns room_columns room_rows loads added = record {
+  columns = columns;
+  loaded = [];
+  scale = pos 1;
+  nonbasic = range_with_len 1 columns;
+  basic = [];
+  lines = [];
+  room_columns = room_columns;
+  room_rows = room_rows;
+  loads = loads;
+  added = added;
+}
+
+-- a row more, whose slack is basic; no other equation changes
+pub record AddsRow (old new : Tableau) (row : LoadedRow) : Type 0 where
+  pub line : List ℤ
+  pub is : new ≡ record old {
+    loaded = old.loaded ++ row ∷ [];
+    basic = old.basic ++ (old.columns + 1 + length old.loaded) ∷ [];
+    lines = old.lines ++ line ∷ [];
+    added = next_count old.added;
+  }
+
+-- y, or -y where x is negative
+abbrev pub with_sign : ℤ → ℤ → ℤ
+with_sign (pos n) y = y
+with_sign (negsuc n) y = neg_ℤ y
+
+-- the number of a line at a column; the constant is at the last
+abbrev pub number_at : List ℤ → ℕ → ℤ
+number_at line column = slice_index_or line column (pos 0)
+
+-- the line of another row after a pivot: each difference of products is divided exactly by the old scale, and all signs are turned where the pivot's entry is negative
+pub record IsOtherLine (scale : ℤ) (column : ℕ) (pivot old new : List ℤ) : Type 0 where
+  pub len : length new ≡ length old
+  pub kept : number_at new column ≡ with_sign (number_at pivot column) (number_at old column)
+  pub divided : (other : ℕ) → other < length old → other ≢ column
+      → number_at new other *ℤ scale
+      ≡ with_sign (number_at pivot column) (number_at pivot column *ℤ number_at old other -ℤ number_at old column *ℤ number_at pivot other)
+
+-- the line of the pivot's row, which is that of the variable that was nonbasic
+pub record IsPivotLine (scale : ℤ) (column : ℕ) (pivot new : List ℤ) : Type 0 where
+  pub len : length new ≡ length pivot
+  pub kept : number_at new column ≡ with_sign (number_at pivot column) scale
+  pub negated : (other : ℕ) → other < length pivot → other ≢ column
+      → number_at new other ≡ with_sign (number_at pivot column) (neg_ℤ (number_at pivot other))
+
+-- the basic variable of the row and the nonbasic variable of the column are exchanged, both counted from 0
+pub record IsPivoted (old new : Tableau) (row column : ℕ) : Type 0 where
+  pub rest : new ≡ record old { scale = new.scale; nonbasic = new.nonbasic; basic = new.basic; lines = new.lines }
+  pub nonbasic : new.nonbasic ≡ slice_set old.nonbasic column (slice_index old.basic row)
+  pub basic : new.basic ≡ slice_set old.basic row (slice_index old.nonbasic column)
+  pub scale : new.scale ≡ with_sign (number_at (line_of old row) column) (number_at (line_of old row) column)
+  pub lines_len : length new.lines ≡ length old.lines
+  pub pivot_line : IsPivotLine old.scale column (line_of old row) (line_of new row)
+  pub other_lines : (other : ℕ) → other < length old.lines → other ≢ row
+      → IsOtherLine old.scale column (line_of old row) (line_of old other) (line_of new other)
+
+-- the last loaded row is gone
+pub record DropsLast (old new : Tableau) : Type 0 where
+  pub loaded : new.loaded ≡ take (length old.loaded - 1) old.loaded
+  pub columns : new.columns ≡ old.columns
+  pub room_columns : new.room_columns ≡ old.room_columns
+  pub room_rows : new.room_rows ≡ old.room_rows
+  pub loads : new.loads ≡ old.loads
+  pub added : new.added ≡ old.added
+
+-- one number of another row's line after a pivot; the others are as they were
+pub record IsExchangedAt (scale : ℤ) (column : ℕ) (pivot old new : List ℤ) (place : ℕ) : Type 0 where
+  pub len : length new ≡ length old
+  pub divided : number_at new place *ℤ scale
+      ≡ with_sign (number_at pivot column) (number_at pivot column *ℤ number_at old place -ℤ number_at old column *ℤ number_at pivot place)
+  pub others : (other : ℕ) → other ≢ place → number_at new other ≡ number_at old other
+
+-- pivots change scale, variables and lines only
+abbrev pub IsPivotedAny : Tableau → Tableau → Type 0
+IsPivotedAny old new = new ≡ record old { scale = new.scale; nonbasic = new.nonbasic; basic = new.basic; lines = new.lines }

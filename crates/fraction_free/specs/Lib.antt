@@ -1,0 +1,4 @@
+pub mod Arrangement
+pub mod Tableau
+pub mod Changes
+pub mod Representation

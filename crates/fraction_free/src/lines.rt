@@ -1,0 +1,218 @@
+//! One row of a dictionary's numbers.
+ghost use Rattle.std.specs.Prelude.{◌≡◌, ◌≢◌, ℕ, ◌<◌, ◌≤◌, ◌^◌, length, replicate, slice_set, slice_index_or, vec_capacity, List, [], ℤ, pos, ◌+ℤ◌, ◌-ℤ◌, ◌*ℤ◌, unsigned_abs};
+ghost use Rattle.wide_step.specs.Quotient.{HasQuotient};
+ghost use Rattle.fraction_free.specs.Changes.{number_at, with_sign, IsOtherLine, IsPivotLine, IsExchangedAt};
+ghost use Rattle.fraction_free.specs.Representation.{CanExchange, AreExchanged};
+
+use std::marker::Model;
+use wide_step::step;
+
+/// A list of at most 25 whole numbers: the entries of a row, and its constant.
+#[derive(Drop)]
+pub struct Line {
+    cells: [i128; 25],
+    len: u8,
+}
+
+impl Model for Line {
+    ghost use Rattle.std.specs.Prelude.{ℤ, ◌≤◌, List, take};
+
+    ghost Value = { List ℤ };
+
+    ghost view = { λ l. take l.len l.cells };
+
+    ghost invariant = { λ l. l.len ≤ 25 };
+}
+
+impl Line {
+    /// So many zeros.
+    pub fn zeros(len: usize) -> Line
+        requires { len ≤ 25 }
+        ensures { result ≡ replicate len (pos 0) }
+    {
+        Line {
+            cells: [0; 25],
+            len: len as u8,
+        }
+    }
+
+    /// The same numbers again.
+    pub fn copy(&self) -> Line
+        ensures { result ≡ self.now }
+    {
+        Line {
+            cells: self.cells,
+            len: self.len,
+        }
+    }
+
+    pub fn len(&self) -> usize
+        ensures value { result ≡ length self.now }
+        ensures most { result ≤ 25 }
+    {
+        usize::from(self.len)
+    }
+
+    /// The number at a place, counted from 0.
+    pub fn get(&self, place: usize) -> i128
+        requires { place < length self.now }
+        ensures { result ≡ number_at self.now place }
+    {
+        let cells = &self.cells;
+        cells[place]
+    }
+
+    pub fn set(&mut self, place: usize, value: i128)
+        requires { place < length self.old }
+        ensures { self.new ≡ slice_set self.old place value }
+    {
+        let cells = &mut self.cells;
+        cells[place] = value;
+    }
+}
+
+impl Line {
+    /// The line after a pivot on another row: each number is the exact quotient by the old scale.
+    pub fn exchange(&mut self, pivot: &Line, column: usize, scale: i128)
+        requires len { length pivot.now ≡ length self.old }
+        requires column { column < length self.old }
+        requires scale { scale ≢ pos 0 }
+        requires scale_size { unsigned_abs scale < 2 ^ 89 }
+        requires sizes { (place : ℕ) → unsigned_abs (number_at self.old place) < 2 ^ 89 }
+        requires pivot_sizes { (place : ℕ) → unsigned_abs (number_at pivot.now place) < 2 ^ 89 }
+        requires exact { (place : ℕ) → place < length self.old → place ≢ column
+            → HasQuotient (number_at pivot.now column *ℤ number_at self.old place -ℤ number_at self.old column *ℤ number_at pivot.now place) scale }
+        ensures { IsOtherLine scale column pivot.now self.old self.new }
+    {
+        for place in 0..self.len() {
+            if place != column {
+                self.exchange_at(place, pivot, column, scale);
+            }
+        }
+        let number = with_sign(pivot.get(column), self.get(column));
+        self.set(column, number);
+    }
+
+    /// One number after a pivot on another row: the difference of products, divided exactly by the
+    /// old scale.
+    fn exchange_at(&mut self, place: usize, pivot: &Line, column: usize, scale: i128)
+        requires len { length pivot.now ≡ length self.old }
+        requires column { column < length self.old }
+        requires place { place < length self.old }
+        requires scale { scale ≢ pos 0 }
+        requires scale_size { unsigned_abs scale < 2 ^ 89 }
+        requires entry_size { unsigned_abs (number_at pivot.now column) < 2 ^ 89 }
+        requires number_size { unsigned_abs (number_at self.old place) < 2 ^ 89 }
+        requires factor_size { unsigned_abs (number_at self.old column) < 2 ^ 89 }
+        requires other_size { unsigned_abs (number_at pivot.now place) < 2 ^ 89 }
+        requires exact { HasQuotient (number_at pivot.now column *ℤ number_at self.old place -ℤ number_at self.old column *ℤ number_at pivot.now place) scale }
+        ensures { IsExchangedAt scale column pivot.now self.old self.new place }
+    {
+        let entry = pivot.get(column);
+        let quotient = step(
+            entry,
+            self.get(place),
+            self.get(column),
+            pivot.get(place),
+            scale,
+        );
+        self.set(place, with_sign(entry, quotient));
+    }
+
+    /// The line of the variable that was nonbasic, after a pivot on this row.
+    pub fn leave(&mut self, column: usize, scale: i128)
+        requires column { column < length self.old }
+        requires scale_size { unsigned_abs scale < 2 ^ 89 }
+        requires sizes { (place : ℕ) → unsigned_abs (number_at self.old place) < 2 ^ 89 }
+        ensures { IsPivotLine scale column self.old self.new }
+    {
+        for place in 0..self.len() {
+            if place != column {
+                let number = with_sign(self.get(column), -self.get(place));
+                self.set(place, number);
+            }
+        }
+        let number = with_sign(self.get(column), scale);
+        self.set(column, number);
+    }
+
+    /// Adds a multiple of another line.
+    pub fn add(&mut self, other: &Line, times: i128)
+        requires len { length other.now ≡ length self.old }
+        requires times { unsigned_abs times ≤ 25 }
+        requires sizes { (place : ℕ) → unsigned_abs (number_at self.old place) < 2 ^ 100 }
+        requires other_sizes { (place : ℕ) → unsigned_abs (number_at other.now place) < 2 ^ 89 }
+        ensures len { length self.new ≡ length self.old }
+        ensures sums { (place : ℕ) → place < length self.old
+            → number_at self.new place ≡ number_at self.old place +ℤ times *ℤ number_at other.now place }
+    {
+        for place in 0..self.len() {
+            self.set(place, self.get(place) + times * other.get(place));
+        }
+    }
+}
+
+/// A number, or its negation where the first is negative.
+pub fn with_sign(of: i128, number: i128) -> i128
+    requires { unsigned_abs number < 2 ^ 127 }
+    ensures { result ≡ with_sign of number }
+{
+    if of < 0 { -number } else { number }
+}
+
+/// The line at a place.
+fn copy_at(lines: &[Line], at: usize) -> Line
+    requires { at < length lines.now }
+    ensures { result ≡ slice_index_or lines.now at [] }
+{
+    let line = &lines[at];
+    line.copy()
+}
+
+/// All lines after a pivot, and the pivot's entry.
+pub fn pivot_lines(lines: &mut Vec<Line>, at: usize, column: usize, scale: i128) -> i128
+    requires at { at < length lines.old.items }
+    requires exact { CanExchange scale at column lines.old.items }
+    ensures entry { result ≡ number_at (slice_index_or lines.old.items at []) column }
+    ensures size { unsigned_abs result < 2 ^ 89 }
+    ensures lines { AreExchanged scale at column lines.old.items lines.new.items }
+    ensures capacity { vec_capacity lines.new ≡ vec_capacity lines.old }
+{
+    let pivot = copy_at(lines.as_slice(), at);
+    let entry = pivot.get(column);
+    exchange_lines(lines.as_mut_slice(), at, &pivot, column, scale);
+    entry
+}
+
+/// All lines after a pivot on the line at a place.
+fn exchange_lines(lines: &mut [Line], at: usize, pivot: &Line, column: usize, scale: i128)
+    requires at { at < length lines.old }
+    requires pivot { pivot.now ≡ slice_index_or lines.old at [] }
+    requires exact { CanExchange scale at column lines.old }
+    ensures { AreExchanged scale at column lines.old lines.new }
+{
+    for row in 0..lines.len() {
+        let line = &mut lines[row];
+        if row == at {
+            line.leave(column, scale);
+        } else {
+            line.exchange(pivot, column, scale);
+        }
+    }
+}
+
+/// The first line with a number that is not 0 at a column, or the number of lines.
+pub fn first_row_with(lines: &[Line], column: usize) -> usize
+    requires { (row : ℕ) → row < length lines.now → column < length (slice_index_or lines.now row []) }
+    ensures before { (row : ℕ) → row < result → number_at (slice_index_or lines.now row []) column ≡ pos 0 }
+    ensures found { result < length lines.now → number_at (slice_index_or lines.now result []) column ≢ pos 0 }
+    ensures most { result ≤ length lines.now }
+{
+    for row in 0..lines.len() {
+        let line = &lines[row];
+        if line.get(column) != 0 {
+            return row;
+        }
+    }
+    lines.len()
+}

@@ -1,0 +1,10 @@
+pub mod WalkLemmas
+pub mod Members
+pub mod TailMembers
+pub mod TailClasses
+pub mod TailOrder
+pub mod TailCounts
+pub mod SearchLemmas
+pub mod PlaceLemmas
+pub mod ListLemmas
+pub mod PlaceLaws

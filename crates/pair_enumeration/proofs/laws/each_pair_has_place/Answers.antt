@@ -1,0 +1,5 @@
+use Rattle.pair_enumeration.proofs.PlaceLaws.{each_pair_has_place_lem}
+use Rattle.pair_enumeration.proofs.laws.each_pair_has_place.Goals as goal
+
+pub returns : goal.returns
+returns c = each_pair_has_place_lem

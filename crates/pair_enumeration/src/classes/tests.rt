@@ -1,0 +1,53 @@
+use super::*;
+use std::test::Fail;
+
+/// The list of three criteria of three levels, from its first pair to its last.
+#[test]
+fn three_by_three(rt: HostRuntime) -> Result<(), Fail> {
+    let model = Model::new(&[3, 3, 3], 3).ok().expect(&rt, "a model");
+    let classes = Classes::list(rt.alloc(), &model)?;
+    assert_eq!(rt; classes.count(), 108);
+    let first = Pair {
+        left: Tuple::of(&[2, 1, 0]),
+        right: Tuple::of(&[1, 2, 0]),
+    };
+    let last = Pair {
+        left: Tuple::of(&[3, 3, 2]),
+        right: Tuple::of(&[2, 2, 3]),
+    };
+    assert!(rt; classes.class(1) == first);
+    assert!(rt; classes.class(108) == last);
+    assert_eq!(rt; classes.place(&first), Some(1));
+    assert_eq!(rt; classes.place(&last), Some(108));
+    Ok(())
+}
+
+/// Each class is found at its place, and with its sides exchanged at none.
+#[test]
+fn places(rt: HostRuntime) -> Result<(), Fail> {
+    let model = Model::new(&[4, 2, 3], 3).ok().expect(&rt, "a model");
+    let classes = Classes::list(rt.alloc(), &model)?;
+    for place in 1..classes.count() + 1 {
+        let class = classes.class(place);
+        let turned = Pair {
+            left: class.right,
+            right: class.left,
+        };
+        assert_eq!(rt; classes.place(&class), Some(place));
+        assert_eq!(rt; classes.place(&turned), None);
+    }
+    Ok(())
+}
+
+/// Two alternatives, both ways round.
+#[test]
+fn places_of_alternatives(rt: HostRuntime) -> Result<(), Fail> {
+    let model = Model::new(&[3, 3, 3], 2).ok().expect(&rt, "a model");
+    let classes = Classes::list(rt.alloc(), &model)?;
+    assert!(rt; classes.model() == model);
+    let a = Tuple::of(&[2, 1, 3]);
+    let b = Tuple::of(&[1, 2, 3]);
+    assert_eq!(rt; classes.place_of(&a, &b), Some((1, Flip::Kept)));
+    assert_eq!(rt; classes.place_of(&b, &a), Some((1, Flip::Turned)));
+    Ok(())
+}

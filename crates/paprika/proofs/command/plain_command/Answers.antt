@@ -1,0 +1,5 @@
+use Rattle.paprika.proofs.StatusLaws.{proved_at_0}
+use Rattle.paprika.proofs.command.plain_command.Goals as goal
+
+pub returns-clause-proved : goal.returns-clause-proved
+returns-clause-proved g c = λ is_check zero. proved_at_0 _ _ _ _ _ (c.run.ensures.check is_check) zero

@@ -1,0 +1,30 @@
+//! The program `paprika`.
+#![tactic(auto)]
+
+mod command;
+
+use command::plain_command;
+use edges::{StdSink, StdSource};
+use std::process::ExitCode;
+use std::{env, io};
+
+fn main(rt: HostRuntime) -> ExitCode {
+    // Words that are no text are the words of no command.
+    let words = match words_of(&rt) {
+        Ok(words) => words,
+        Err(error) if error.kind() == io::ErrorKind::OutOfMemory => return ExitCode::from(5),
+        Err(_) => Vec::new(rt.alloc()),
+    };
+    let mut source = StdSource::new(rt.stdin());
+    let mut sink = StdSink::new(rt.stdout());
+    ExitCode::from(plain_command(rt.alloc(), words.as_slice(), &mut source, &mut sink))
+}
+
+/// The words after the program's name.
+fn words_of(rt: &HostRuntime) -> io::Result<Vec<String>> {
+    let words = env::args(rt)?.skip(1).collect(rt.alloc())?;
+    Ok(words)
+}
+
+#[cfg(test)]
+mod tests;

@@ -1,0 +1,199 @@
+-- What each line, and the end of the text, says of a text.
+use Rattle.std.proofs.Common.{◌≡◌, ℕ, ◌+◌, ◌<◌, ◌≤◌, List, [], ◌∷◌, ◌++◌, length, map, suc, take, drop, get_or, take-append-drop, drop-cons, length-take, refl, sym, ap, subst, ◌∙◌, arith, append-nil, length-append, inl, inr}
+use Rattle.std.specs.Prelude.{Option, Some, None, IfSome, All}
+use Rattle.std.specs.Io.KnownBytes.{prepend_known}
+use Rattle.std.proofs.lemmas.List.Elements.{All-nil, All-cons, All-append}
+use Rattle.edges.specs.Line.{HasNoLineEnd, first_line, line_end, unlines}
+use Rattle.edges.specs.Lines.{LinesView, GivesLine, GivesPiece, GivesEnd, GivesTooLong, ahead}
+use Rattle.edges.specs.Told.{IsAtEnd}
+use Rattle.edges.proofs.ToldLemmas.{prepend_known-append, prepend_known-nil}
+use Rattle.edges.proofs.LineLaws.{first_line-long, unlines-push}
+use Rattle.std.proofs.lemmas.Bool.{cases_lt}
+use Rattle.std.proofs.lemmas.List.{length-map}
+use Rattle.criteria_model.specs.Criteria.{Criteria}
+use Rattle.result_file.specs.Claims.{Claim}
+use Rattle.result_file.specs.declared.places.Place.{Place}
+use Rattle.result_file.specs.declared.places.Place.TheVariants as places
+use Rattle.result_file.specs.declared.verdicts.Part.{Part}
+use Rattle.result_file.specs.declared.verdicts.Part.TheVariants.{Form}
+use Rattle.result_file.specs.declared.verdicts.Checked.{Checked}
+use Rattle.result_file.specs.declared.verdicts.Checked.TheVariants.{Valid, ValidComplete, Invalid, Unfinished, ReadFault, NoMemory}
+use Rattle.result_file.specs.Texts.{heading, end_line, model_line, claim_line}
+use Rattle.result_file.specs.Checked.{most_claims, Stage, blank, headed, begun, ended, AreClaims, Says, Fails, IsChecked, IsValid}
+use Rattle.result_file.specs.Places.{StandsFor, GoesOn, EndsAs, HasCome, IsToldChecked}
+
+for_told : (text : Option (List ℕ)) (P : List ℕ → Type 0) → ((bytes : List ℕ) → text ≡ Some bytes → P bytes) → IfSome text P
+for_told None P f = tt
+for_told (Some bytes) P f = f bytes refl
+
+-- what is told now, where it is told what was before
+told_now : (text now : Option (List ℕ)) (front bytes : List ℕ) → text ≡ prepend_known front now → text ≡ Some bytes → (rest : List ℕ) × (now ≡ Some rest) × (bytes ≡ front ++ rest)
+told_now text None front bytes e is = absurd cc
+told_now text (Some rest) front bytes e is = (rest, refl, cc)
+
+one_line : (line : List ℕ) → HasNoLineEnd line → All HasNoLineEnd (line ∷ [])
+one_line line h = All-cons HasNoLineEnd line [] h (All-nil HasNoLineEnd)
+
+-- a whole line that fails
+pub line_checked : (text before now : Option (List ℕ)) (number : ℕ) (place : Place) (new : LinesView) (part : Part) → HasCome text before number place → GivesLine new before now → length new.line ≤ 4096 → ((stage : Stage) → StandsFor place stage → Fails stage new.line part) → IsToldChecked text (Invalid number part)
+line_checked text before now number place new part h g short fails =
+    for_told text (λ bytes. IsChecked bytes (Invalid number part)) (λ bytes is.
+    let t = told_now text before (unlines h.lines) bytes h.told is in
+    let u = told_now before now (new.line ++ line_end ∷ []) t.0 g.told t.1 in
+    record {
+      lines = h.lines;
+      rest = t.0;
+      stage = h.stage;
+      split = record { whole = t.2; unbroken = h.unbroken };
+      says = h.says;
+      number = h.number;
+      next = inr (inr (record {
+        line = new.line;
+        after = u.0;
+        split = record { whole = u.2; unbroken = one_line new.line g.unbroken };
+        fits = short;
+        fails = fails h.stage h.stands;
+      }));
+    })
+
+-- a whole line that is right
+pub line_come : (text before now : Option (List ℕ)) (number : ℕ) (place next : Place) (new : LinesView) → HasCome text before number place → GivesLine new before now → ((lines : List (List ℕ)) (stage : Stage) → Says lines stage → StandsFor place stage → GoesOn lines new.line next) → HasCome text now (number + 1) next
+line_come text before now number place next new h g goes =
+    let go = goes h.lines h.stage h.says h.stands in
+    let whole : unlines (h.lines ++ new.line ∷ []) ≡ unlines h.lines ++ (new.line ++ line_end ∷ []) =
+    sym (append-nil (unlines (h.lines ++ new.line ∷ []))) ∙ unlines-push h.lines new.line [] in
+    let told : text ≡ prepend_known (unlines h.lines) (prepend_known (new.line ++ line_end ∷ []) now) = h.told ∙ ap (prepend_known (unlines h.lines)) g.told in
+    record {
+      lines = h.lines ++ new.line ∷ [];
+      stage = go.stage;
+      unbroken = All-append HasNoLineEnd h.lines (new.line ∷ []) h.unbroken (one_line new.line g.unbroken);
+      told = told ∙ sym (prepend_known-append (unlines h.lines) (new.line ++ line_end ∷ []) now) ∙ ap (λ (front : List ℕ). prepend_known front now) (sym whole);
+      says = go.says;
+      stands = go.stands;
+      number = omega (arith, h.number, length-append h.lines (new.line ∷ []));
+    }
+
+-- the last lines of a file, and a piece after them
+ends_valid : (bytes piece : List ℕ) (lines : List (List ℕ)) (stage : Stage) (number : ℕ) → bytes ≡ unlines lines ++ piece → Says lines stage → EndsAs stage piece number Valid → IsValid bytes
+ends_valid bytes piece lines blank number whole says h = elim h [ inl at ↦ absurd at.0 | inr at ↦ absurd at.0 ]
+ends_valid bytes piece lines headed number whole says h = elim h [ inl at ↦ absurd at.0 | inr at ↦ absurd at.0 ]
+ends_valid bytes piece lines (begun criteria claims) number whole says h =
+    elim h [
+      | inl at ↦ record {
+        criteria = criteria;
+        claims = claims;
+        right = says.0;
+        lines = inl (whole ∙ ap (λ (ls : List (List ℕ)). unlines ls ++ piece) says.1 ∙ ap (λ (p : List ℕ). unlines (heading ∷ model_line criteria ∷ map claim_line claims) ++ p) at.1);
+      }
+      | inr at ↦ absurd at.0
+    ]
+ends_valid bytes piece lines (ended criteria claims) number whole says h =
+    elim h [
+      | inl at ↦ absurd at.0
+      | inr at ↦ record {
+        criteria = criteria;
+        claims = claims;
+        right = says.0;
+        lines = inr (whole ∙ ap (λ (p : List ℕ). unlines lines ++ p) at.1 ∙ append-nil (unlines lines) ∙ ap unlines says.1);
+      }
+    ]
+
+ends_checked : (verdict : Checked) (bytes piece : List ℕ) (lines : List (List ℕ)) (stage : Stage) (number : ℕ) → bytes ≡ unlines lines ++ piece → All HasNoLineEnd lines → HasNoLineEnd piece → length piece ≤ 4096 → Says lines stage → number ≡ length lines + 1 → EndsAs stage piece number verdict → IsChecked bytes verdict
+ends_checked Valid bytes piece lines stage number whole unbroken one short says count h = ends_valid bytes piece lines stage number whole says h
+ends_checked ValidComplete bytes piece lines stage number whole unbroken one short says count h = absurd h
+ends_checked (Invalid line part) bytes piece lines stage number whole unbroken one short says count h = record {
+  lines = lines;
+  rest = piece;
+  stage = stage;
+  split = record { whole = whole; unbroken = unbroken };
+  says = says;
+  number = h.2 ∙ count;
+  next = inr (inl (h.0, h.1, h.3));
+}
+ends_checked (Unfinished line) bytes piece lines stage number whole unbroken one short says count h = record {
+  lines = lines;
+  rest = piece;
+  stage = stage;
+  split = record { whole = whole; unbroken = unbroken };
+  says = says;
+  number = h.1 ∙ count;
+  next = (one, short, h.0);
+}
+ends_checked ReadFault bytes piece lines stage number whole unbroken one short says count h = absurd h
+ends_checked NoMemory bytes piece lines stage number whole unbroken one short says count h = absurd h
+
+-- the end of the text, after a piece of a line
+piece_checked : (text before now : Option (List ℕ)) (number : ℕ) (place : Place) (piece : List ℕ) (verdict : Checked) → HasCome text before number place → before ≡ prepend_known piece now → IsAtEnd now → HasNoLineEnd piece → length piece ≤ 4096 → ((stage : Stage) → StandsFor place stage → EndsAs stage piece number verdict) → IsToldChecked text verdict
+piece_checked text before now number place piece verdict h told at_end one short ends =
+    for_told text (λ bytes. IsChecked bytes verdict) (λ bytes is.
+    let t = told_now text before (unlines h.lines) bytes h.told is in
+    let u = told_now before now piece t.0 told t.1 in
+    let none : u.0 ≡ [] = subst (λ (left : Option (List ℕ)). IsAtEnd left) u.1 at_end in
+    let rest : t.0 ≡ piece = u.2 ∙ ap (λ (p : List ℕ). piece ++ p) none ∙ append-nil piece in
+    ends_checked verdict bytes piece h.lines h.stage number (t.2 ∙ ap (λ (p : List ℕ). unlines h.lines ++ p) rest) h.unbroken one short h.says h.number (ends h.stage h.stands))
+
+pub end_with_piece : (text before now : Option (List ℕ)) (number : ℕ) (place : Place) (new : LinesView) (verdict : Checked) → HasCome text before number place → GivesPiece new before now → length new.line ≤ 4096 → ((stage : Stage) → StandsFor place stage → EndsAs stage new.line number verdict) → IsToldChecked text verdict
+end_with_piece text before now number place new verdict h g short ends =
+    piece_checked text before now number place new.line verdict h g.told g.ended g.unbroken short ends
+
+pub end_without_piece : (text before now : Option (List ℕ)) (number : ℕ) (place : Place) (new : LinesView) (verdict : Checked) → HasCome text before number place → GivesEnd new before now → ((stage : Stage) → StandsFor place stage → EndsAs stage new.line number verdict) → IsToldChecked text verdict
+end_without_piece text before now number place new verdict h g ends =
+    piece_checked text before now number place [] verdict h (sym g.same ∙ sym (prepend_known-nil now)) g.ended (All-nil _) (omega arith) (rw g.no_line at ends)
+
+-- more bytes than the longest line's without a line end
+pub long_checked : (text before now left : Option (List ℕ)) (number : ℕ) (place : Place) (new : LinesView) → HasCome text before number place → GivesTooLong new before now → now ≡ prepend_known new.kept left → new.longest ≡ 4096 → IsToldChecked text (Invalid number Form)
+long_checked text before now left number place new h g ahead longest =
+    for_told text (λ bytes. IsChecked bytes (Invalid number Form)) (λ bytes is.
+    let t = told_now text before (unlines h.lines) bytes h.told is in
+    let u = told_now before left new.kept t.0 (sym g.same ∙ ahead) t.1 in
+    let long : 4096 < length (first_line (new.kept ++ u.0)) = first_line-long new.kept u.0 4096 (omega (arith, g.too_many)) (rw longest at g.unbroken) in
+    record {
+      lines = h.lines;
+      rest = t.0;
+      stage = h.stage;
+      split = record { whole = t.2; unbroken = h.unbroken };
+      says = h.says;
+      number = h.number;
+      next = inl (rw u.2 long, refl);
+    })
+
+-- ---- the loop over the lines
+
+-- each claim's number is below the most
+claim_number : (n : ℕ) (criteria : Criteria) (claims : List Claim) → AreClaims criteria claims → n < length claims → n < most_claims
+claim_number n criteria [] h lt = absurd (omega arith)
+claim_number n criteria (claim ∷ claims) h lt =
+    let e : claim ∷ claims ≡ take n (claim ∷ claims) ++ get_or (claim ∷ claims) n claim ∷ drop (suc n) (claim ∷ claims) =
+    sym (take-append-drop n (claim ∷ claims)) ∙ ap (λ (rest : List Claim). take n (claim ∷ claims) ++ rest) (drop-cons (claim ∷ claims) n claim lt) in
+    let room = (h.each (take n (claim ∷ claims)) (get_or (claim ∷ claims) n claim) (drop (suc n) (claim ∷ claims)) e).room in
+    let len : length (take n (claim ∷ claims)) ≡ n = simp length-take (omega arith) in
+    omega (arith, room, len)
+
+few_claims : (criteria : Criteria) (claims : List Claim) → AreClaims criteria claims → length claims ≤ most_claims
+few_claims criteria claims h =
+    elim (cases_lt most_claims (length claims)) [
+      | inl lt ↦ let same = claim_number most_claims criteria claims h lt in absurd (omega arith)
+      | inr le ↦ le
+    ]
+
+few_lines : (lines : List (List ℕ)) (stage : Stage) → Says lines stage → length lines ≤ 131075
+few_lines lines blank h = rw h (omega arith)
+few_lines lines headed h = rw h (omega arith)
+few_lines lines (begun criteria claims) h = rw h.1 (omega (arith, few_claims criteria claims h.0, length-map claims claim_line))
+few_lines lines (ended criteria claims) h =
+    rw h.1 (omega (arith, few_claims criteria claims h.0, length-map claims claim_line, length-append (heading ∷ model_line criteria ∷ map claim_line claims) (end_line ∷ [])))
+
+pub few_come : (text now : Option (List ℕ)) (number : ℕ) (place : Place) → HasCome text now number place → number ≤ 131076
+few_come text now number place h = omega (arith, few_lines h.lines h.stage h.says, h.number)
+
+-- no line yet
+pub none_come : (lines : LinesView) (left : Option (List ℕ)) → lines.kept ≡ [] → HasCome left (ahead lines left) 1 places.Blank
+none_come lines left none = record {
+  lines = [];
+  stage = blank;
+  unbroken = All-nil HasNoLineEnd;
+  told = sym (prepend_known-nil (ahead lines left) ∙ rw none (prepend_known-nil left));
+  says = refl;
+  stands = tt;
+  number = refl;
+}

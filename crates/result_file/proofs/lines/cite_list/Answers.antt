@@ -1,0 +1,34 @@
+use Rattle.std.proofs.Common.{◌≡◌, true, false, drop, arith}
+use Rattle.text_fields.specs.Spelling.{is_next}
+use Rattle.result_file.specs.Reading.{cite_at}
+use Rattle.text_fields.proofs.ListSteps.{first_cell, no_first_item, next_cell, no_next_cell, last_cell}
+use Rattle.result_file.proofs.lines.cite_list.Goals as goal
+
+pub returns-in_err-cells : goal.returns-in_err-cells
+returns-in_err-cells c =
+    rw c.from_residual.ensures (record { exact = no_first_item cite_at _ c.args.fields.now c.in_err-cells.ensures.exact })
+
+pub loop-count-init : goal.loop-count-init
+loop-count-init c = first_cell _ _ _ _ _ c.requires c.in_ok-cells.ensures.exact
+
+pub returns-in_err-cells-2 : goal.returns-in_err-cells-2
+returns-in_err-cells-2 c =
+    let comma : is_next 0x2C c.loop-count.fields ≡ true = cc in
+    let left : c.skip.new.self ≡ drop 1 c.loop-count.fields = c.if-skip.ensures.left in
+    rw c.from_residual-in_err-cells-2.ensures (record { exact = no_next_cell _ _ _ _ _ _ c.loop-count.invariant c.loop-count-test.true comma (rw left at c.in_err-cells-2.ensures.exact) })
+
+pub loop-count-preserved : goal.loop-count-preserved
+loop-count-preserved c =
+    let comma : is_next 0x2C c.loop-count.fields ≡ true = cc in
+    let left : c.skip.new.self ≡ drop 1 c.loop-count.fields = c.if-skip.ensures.left in
+    next_cell _ _ _ _ _ _ _ _ c.loop-count.invariant c.loop-count-test.true comma (rw left at c.in_ok-cells-2.ensures.exact)
+
+pub returns-else-skip : goal.returns-else-skip
+returns-else-skip c =
+    let no_comma : is_next 0x2C c.loop-count.fields ≡ false = cc in
+    let left : c.skip.new.self ≡ c.loop-count.fields = c.if-skip.ensures.left in
+    record { exact = (omega (arith, c.loop-count.invariant.room, c.loop-count.invariant.within), rw left (last_cell _ _ _ _ _ _ c.loop-count.invariant (λ _. no_comma))) }
+
+pub returns-after-loop-count : goal.returns-after-loop-count
+returns-after-loop-count c =
+    record { exact = (omega (arith, c.loop-count.invariant.room, c.loop-count.invariant.within), last_cell _ _ _ _ _ _ c.loop-count.invariant (λ lt. absurd (omega (arith, c.loop-count-test.false)))) }

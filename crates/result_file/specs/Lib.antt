@@ -1,0 +1,11 @@
+pub mod Claims
+pub mod Texts
+pub mod Parts
+pub mod Checked
+pub mod Reading
+pub mod Eliminations
+pub mod Kept
+pub mod Places
+pub mod Stops
+pub mod Verdicts
+pub mod Words

@@ -1,0 +1,74 @@
+-- How the lines of a checked file are written, each without its line end.
+use Rattle.std.specs.Prelude.{ℕ, List, [], ◌∷◌, ◌++◌, codes}
+use Rattle.std.specs.Fmt.{decimal, signed_decimal}
+use Rattle.text_fields.specs.Spelling.{listed}
+use Rattle.criteria_model.specs.declared.pairs.Pair.{Pair}
+use Rattle.criteria_model.specs.declared.pairs.Answer.{Answer}
+use Rattle.criteria_model.specs.declared.pairs.Side.{Side}
+use Rattle.criteria_model.specs.declared.pairs.Side.TheVariants.{Left, Right, Equal}
+use Rattle.criteria_model.specs.Criteria.{Criteria}
+use Rattle.farkas_check.specs.declared.cites.Cite.{Cite}
+use Rattle.farkas_check.specs.declared.combination.Combination.{Combination}
+use Rattle.result_file.specs.declared.eliminations.Elimination.{Elimination}
+use Rattle.result_file.specs.Claims.{Claim, answered, eliminated}
+
+-- the longest line
+abbrev pub longest_line : ℕ
+longest_line = 4096
+
+-- the first line
+abbrev pub heading : List ℕ
+heading = codes "paprika claims 1"
+
+-- the last line
+abbrev pub end_line : List ℕ
+end_line = codes "end"
+
+-- the second line
+abbrev pub model_line : Criteria → List ℕ
+model_line criteria = codes "model " ++ listed decimal criteria.levels ++ codes " degree " ++ decimal criteria.degree
+
+-- a pair: its two lists of levels
+abbrev pub pair_text : Pair → List ℕ
+pair_text pair = listed decimal pair.left ++ codes "/" ++ listed decimal pair.right
+
+-- a side
+abbrev pub side_text : Side → List ℕ
+side_text Left = codes "left"
+side_text Right = codes "right"
+side_text Equal = codes "equal"
+
+-- a pair and a side of it
+abbrev pub ranking_text : Answer → List ℕ
+ranking_text ranking = pair_text ranking.pair ++ codes " " ++ side_text ranking.side
+
+-- a cited answer and its weight
+abbrev pub cite_text : Cite → List ℕ
+cite_text cite = decimal cite.answer ++ codes ":" ++ signed_decimal cite.weight
+
+-- the cited answers, or a dash for none
+abbrev pub cites_text : List Cite → List ℕ
+cites_text [] = codes "-"
+cites_text (cite ∷ cites) = listed cite_text (cite ∷ cites)
+
+-- a combination: the scale, the increments' weights and the cited answers
+abbrev pub combination_text : Combination → List ℕ
+combination_text combination =
+    signed_decimal combination.scale ++ codes " " ++ listed signed_decimal combination.increments
+    ++ codes " " ++ cites_text combination.answers
+
+-- an answer line
+abbrev pub answer_line : Answer → List ℕ
+answer_line answer = codes "answer " ++ ranking_text answer
+
+-- an eliminate line
+abbrev pub elimination_line : Elimination → List ℕ
+elimination_line elimination =
+    codes "eliminate " ++ decimal elimination.worker ++ codes " "
+    ++ ranking_text (record { pair = elimination.pair; side = elimination.verdict })
+    ++ codes " " ++ combination_text elimination.combination
+
+-- the line of a claim
+abbrev pub claim_line : Claim → List ℕ
+claim_line (answered answer) = answer_line answer
+claim_line (eliminated elimination) = elimination_line elimination

@@ -1,0 +1,58 @@
+ghost use Rattle.std.specs.Prelude.{◌≡◌, None, Some, take, MatchOption, IfSome};
+ghost use Rattle.text_fields.specs.Spelling.{IsCertificate};
+ghost use Rattle.farkas_check.specs.Cited.{AreCites};
+ghost use Rattle.result_file.specs.Reading.{elimination_at};
+ghost use Rattle.result_file.specs.Eliminations.{Reads};
+
+use crate::lines::{combination, ranking};
+use criteria_model::{Pair, Side};
+use farkas_check::{Cite, Cites, Combination};
+use text_fields::Fields;
+
+/// The greatest number of an eliminator.
+const MOST_WORKERS: u8 = 16;
+
+/// What stands in a cell that holds no cite.
+const NO_CITE: Cite = Cite {
+    answer: 0,
+    weight: 0,
+};
+
+/// A verdict on a pair, with the combination of answers that is to prove it.
+#[derive(Clone, Copy)]
+pub struct Elimination {
+    /// Who found it: an eliminator's number, or 0.
+    pub worker: u8,
+    pub pair: Pair,
+    pub verdict: Side,
+    pub combination: Combination,
+}
+
+/// The elimination that a line spells, for so many criteria and increments.
+#[tactic(auto, unfolding(crate::specs::Reading::elimination_at))]
+pub(crate) fn elimination_of(line: &[u8], criteria: usize, increments: usize) -> Option<Elimination>
+    ensures { Reads result (elimination_at criteria increments line.now) }
+{
+    let mut fields = Fields::of(line);
+    fields.word(b"eliminate ")?;
+    let worker = fields.small_number(MOST_WORKERS)?;
+    fields.word(b" ")?;
+    let claim = ranking(&mut fields, criteria)?;
+    fields.word(b" ")?;
+    let mut cells = [NO_CITE; 24];
+    let (scale, weights, count) = combination(&mut fields, increments, &mut cells)?;
+    if !fields.is_empty() {
+        return None;
+    }
+    let answers = Cites::of(&cells[..count])?;
+    Some(Elimination {
+        worker,
+        pair: claim.pair,
+        verdict: claim.side,
+        combination: Combination {
+            scale,
+            increments: weights,
+            answers,
+        },
+    })
+}

@@ -1,0 +1,174 @@
+// The fields of a line.
+ghost use Rattle.std.specs.Prelude.{◌≡◌, ◌<◌, ◌≤◌, None, Some, length, take, MatchOption, IfSome, unsigned_abs};
+ghost use Rattle.text_fields.specs.Spelling.{IsCertificate};
+ghost use Rattle.text_fields.specs.Reading.{Gives, GivesList, list_at};
+ghost use Rattle.result_file.specs.Reading.{tuple_at, pair_at, side_at, ranking_at, answer_at, model_at, weights_at, cite_at, cites_at, combination_at};
+
+use criteria_model::{Answer, Pair, Side, Tuple, Vector};
+use farkas_check::Cite;
+use text_fields::Fields;
+
+/// The greatest number of a model line.
+const MOST_LEVELS: u32 = 999;
+
+/// The greatest number of a pair.
+const MOST_LEVEL: u8 = 25;
+
+/// The greatest number of an answer.
+const MOST_ANSWERS: u32 = 131_072;
+
+/// Reads the levels into the front of `cells`, and says how many there are and what the degree is.
+#[tactic(auto, unfolding(crate::specs::Reading::model_at))]
+pub(crate) fn model_of(line: &[u8], cells: &mut [u32; 2048]) -> Option<(usize, u32)>
+    ensures { MatchOption result
+        (model_at line.now ≡ None)
+        (λ found. (found.0 ≤ 2048) × (model_at line.now ≡ Some (take found.0 cells.new, found.1))) }
+{
+    let mut fields = Fields::of(line);
+    fields.word(b"model ")?;
+    let count = fields.numbers(MOST_LEVELS, cells)?;
+    fields.word(b" degree ")?;
+    let degree = fields.number(MOST_LEVELS)?;
+    if !fields.is_empty() {
+        return None;
+    }
+    Some((count, degree))
+}
+
+/// Reads one side of a pair.
+#[tactic(auto, unfolding(crate::specs::Reading::tuple_at))]
+fn tuple(fields: &mut Fields<'_>, criteria: usize) -> Option<Tuple>
+    ensures { Gives result fields.new (tuple_at criteria fields.old) }
+{
+    let mut cells = [0; 24];
+    let count = fields.small_numbers(MOST_LEVEL, &mut cells)?;
+    if count != criteria {
+        return None;
+    }
+    Some(Tuple::of(&cells[..count]))
+}
+
+/// Reads a pair.
+#[tactic(auto, unfolding(crate::specs::Reading::pair_at))]
+fn pair(fields: &mut Fields<'_>, criteria: usize) -> Option<Pair>
+    ensures { Gives result fields.new (pair_at criteria fields.old) }
+{
+    let left = tuple(fields, criteria)?;
+    fields.word(b"/")?;
+    let right = tuple(fields, criteria)?;
+    Some(Pair { left, right })
+}
+
+/// Reads a side.
+#[tactic(auto, unfolding(crate::specs::Reading::side_at))]
+fn side(fields: &mut Fields<'_>) -> Option<Side>
+    ensures { Gives result fields.new (side_at fields.old) }
+{
+    if fields.word(b"left").is_some() {
+        return Some(Side::Left);
+    }
+    if fields.word(b"right").is_some() {
+        return Some(Side::Right);
+    }
+    fields.word(b"equal")?;
+    Some(Side::Equal)
+}
+
+/// Reads a pair and a side of it.
+#[tactic(auto, unfolding(crate::specs::Reading::ranking_at))]
+pub(crate) fn ranking(fields: &mut Fields<'_>, criteria: usize) -> Option<Answer>
+    ensures { Gives result fields.new (ranking_at criteria fields.old) }
+{
+    let pair = pair(fields, criteria)?;
+    fields.word(b" ")?;
+    let side = side(fields)?;
+    Some(Answer { pair, side })
+}
+
+/// The answer that a line spells, for so many criteria.
+#[tactic(auto, unfolding(crate::specs::Reading::answer_at))]
+pub(crate) fn answer_of(line: &[u8], criteria: usize) -> Option<Answer>
+    ensures { result ≡ answer_at criteria line.now }
+{
+    let mut fields = Fields::of(line);
+    fields.word(b"answer ")?;
+    let answer = ranking(&mut fields, criteria)?;
+    if !fields.is_empty() {
+        return None;
+    }
+    Some(answer)
+}
+
+/// Reads the increments' weights.
+#[tactic(auto, unfolding(crate::specs::Reading::weights_at))]
+fn weights(fields: &mut Fields<'_>, increments: usize) -> Option<Vector>
+    ensures { Gives result fields.new (weights_at increments fields.old) }
+{
+    let mut cells = [0; 24];
+    let count = fields.certificates(&mut cells)?;
+    if count != increments {
+        return None;
+    }
+    Some(Vector::of(&cells[..count]))
+}
+
+/// Reads a cited answer and its weight.
+#[tactic(auto, unfolding(crate::specs::Reading::cite_at))]
+fn cite(fields: &mut Fields<'_>) -> Option<Cite>
+    ensures exact { Gives result fields.new (cite_at fields.old) }
+    ensures weight { IfSome result (λ cite. IsCertificate cite.weight) }
+{
+    let answer = fields.number(MOST_ANSWERS)?;
+    fields.word(b":")?;
+    let weight = fields.certificate()?;
+    Some(Cite { answer, weight })
+}
+
+/// Reads cites, joined by commas, into the front of `cells`, and says how many: at least one, and as many as come
+/// next or there are cells.
+fn cite_list(fields: &mut Fields<'_>, cells: &mut [Cite]) -> Option<usize>
+    requires { 0 < length cells.old }
+    ensures exact { GivesList result cells.new fields.new (list_at cite_at (length cells.old) fields.old) }
+{
+    cells[0] = cite(fields)?;
+    let mut count = 1;
+    while count < cells.len() && fields.skip(b',') {
+        cells[count] = cite(fields)?;
+        count += 1;
+    }
+    Some(count)
+}
+
+/// Reads the cites of a combination, in whatever order, into the front of `cells`, and says how many.
+#[tactic(auto, unfolding(crate::specs::Reading::cites_at))]
+fn cites(fields: &mut Fields<'_>, cells: &mut [Cite; 24]) -> Option<usize>
+    ensures { GivesList result cells.new fields.new (cites_at fields.old) }
+{
+    if fields.skip(b'-') {
+        return Some(0);
+    }
+    cite_list(fields, cells)
+}
+
+/// Reads a combination: its scale, the increments' weights, and its cites, in whatever order, into the front of
+/// `cells`; says how many cites there are.
+#[tactic(auto, unfolding(crate::specs::Reading::combination_at))]
+pub(crate) fn combination(
+    fields: &mut Fields<'_>,
+    increments: usize,
+    cells: &mut [Cite; 24],
+) -> Option<(i128, Vector, usize)>
+    ensures exact { MatchOption result
+        (combination_at increments fields.old ≡ None)
+        (λ found. combination_at increments fields.old
+        ≡ Some (record { scale = found.0; increments = found.1; answers = take found.2 cells.new }, fields.new)) }
+    ensures within { IfSome result (λ found. found.2 ≤ 24) }
+    ensures scale { IfSome result (λ found. IsCertificate found.0) }
+{
+    let scale = fields.certificate()?;
+    fields.word(b" ")?;
+    let weights = weights(fields, increments)?;
+    fields.word(b" ")?;
+    let count = cites(fields, cells)?;
+    Some((scale, weights, count))
+}

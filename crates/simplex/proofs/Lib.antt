@@ -1,0 +1,15 @@
+pub mod Positions
+pub mod Variables
+pub mod AsSystem
+pub mod Sizes
+pub mod Choosing
+pub mod Divisors
+pub mod Quotients
+pub mod ScaledPoints
+pub mod Points
+pub mod Pushes
+pub mod Equations
+pub mod NextSlacks
+pub mod Slacks
+pub mod Clashes
+pub mod ClashParts

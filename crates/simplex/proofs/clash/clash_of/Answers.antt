@@ -1,0 +1,33 @@
+use Rattle.std.proofs.Common.{◌-◌, arith}
+use Rattle.simplex.proofs.ClashParts.{HasWeights, unmet, weights_are_clash}
+use Rattle.simplex.proofs.clash.clash_of.Goals as goal
+
+pub returns-clause-clash : goal.returns-clause-clash
+returns-clause-clash c =
+    weights_are_clash c.args.work.now (c.args.row - 1) c.increment_weights.result c.slack_weights.result
+    (record {
+      dictionary = c.increment_weights.ensures.dictionary;
+      within = omega arith;
+      negative = c.requires.negative;
+      blocked = c.requires.blocked;
+      len = c.increment_weights.ensures.len;
+      own = c.increment_weights.ensures.weights;
+      weights = c.slack_weights.ensures.weights;
+      loaded_rows = c.slack_weights.ensures.loaded_rows;
+      slacks = c.slack_weights.ensures.sums;
+    })
+
+pub returns-clause-unmet : goal.returns-clause-unmet
+returns-clause-unmet c =
+    unmet c.args.work.now (c.args.row - 1) c.increment_weights.result c.slack_weights.result
+    (record {
+      dictionary = c.increment_weights.ensures.dictionary;
+      within = omega arith;
+      negative = c.requires.negative;
+      blocked = c.requires.blocked;
+      len = c.increment_weights.ensures.len;
+      own = c.increment_weights.ensures.weights;
+      weights = c.slack_weights.ensures.weights;
+      loaded_rows = c.slack_weights.ensures.loaded_rows;
+      slacks = c.slack_weights.ensures.sums;
+    })

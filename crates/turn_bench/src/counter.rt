@@ -1,0 +1,23 @@
+//! What lies behind the locks: a number of steps, with an empty journal.
+use turn_lock::Journalled;
+
+#[derive(Drop)]
+pub struct Counter {
+    pub steps: u64,
+}
+
+impl Journalled for Counter {
+    type Entry = ();
+
+    type Kind = ();
+
+    ghost use Rattle.std.specs.Prelude.{[]};
+
+    ghost entries = { λ _. [] };
+
+    ghost kind = { λ _. tt };
+
+    fn count(&self) -> u64 {
+        0
+    }
+}

@@ -1,0 +1,4 @@
+pub mod Prefixes
+pub mod Totals
+mod Keeps
+mod Parts

@@ -1,0 +1,19 @@
+//! A ticket lock over a value that keeps a journal.
+//!
+//! The threads that share the value have seats. A seat enters a turn, is given the value, adds entries and leaves.
+//! What it is given begins with all that it has seen, and once all seats are joined, each entry that was added is
+//! somebody's own. A seat can be split and joined, so that each thread has one.
+#![tactic(auto)]
+
+mod journal;
+mod plays;
+mod rule;
+mod turn;
+
+pub use journal::Journalled;
+/// The one refusal: there was no memory.
+pub use std::alloc::AllocError as NoMemory;
+pub use turn::{Turn, TurnSeat};
+
+#[cfg(test)]
+mod tests;
