@@ -72,7 +72,7 @@ count_less p (z ∷ xs) zero x at fails =
 count_less p (z ∷ xs) (suc i) x at fails =
     omega (arith, sum_by-cons (λ y. cond (p y) 1 0) z xs, count_less p xs i x at fails, cond_le (p z))
 
-count_none : {X : Type 0} (p : X → Bool) (n : ℕ) (x : X) → p x ≡ false → count_by p (replicate n x) ≡ 0
+pub count_none : {X : Type 0} (p : X → Bool) (n : ℕ) (x : X) → p x ≡ false → count_by p (replicate n x) ≡ 0
 count_none p zero x fails = refl
 count_none p (suc n) x fails =
     omega (arith, sum_by-cons (λ y. cond (p y) 1 0) x (replicate n x), count_none p n x fails, ap one_if fails)

@@ -1,4 +1,4 @@
-ghost use Rattle.std.specs.Prelude.{◌≡◌, ◌↔◌, ℕ, ◌-◌, ◌^◌, ◌<◌, ◌≤◌, [], ◌∷◌, ◌++◌, Some, length, slice_get, IsTrue, IsSomeAnd, IfOk, MatchResult, MatchOption, unsigned_abs};
+ghost use Rattle.std.specs.Prelude.{◌≡◌, ◌↔◌, ℕ, ◌-◌, ◌^◌, ◌<◌, ◌≤◌, [], ◌∷◌, ◌++◌, Some, length, slice_get, IsTrue, IsSomeAnd, IfOk, IsSome, IfSome, MatchResult, MatchOption, unsigned_abs};
 ghost use Rattle.criteria_model.specs.Worth.{increments, IsValueVector};
 ghost use Rattle.criteria_model.specs.declared.pairs.Answer.{Answer};
 ghost use Rattle.farkas_check.specs.Flaws.{IsFirstFlaw};
@@ -6,11 +6,11 @@ ghost use Rattle.criteria_model.specs.Answers.{Ranks, MeetsAll};
 ghost use Rattle.criteria_model.specs.Pairs.{IsFit};
 ghost use Rattle.criteria_model.specs.Classes.{IsClass};
 ghost use Rattle.pair_enumeration.specs.Listed.{IsListed};
+ghost use Rattle.pair_enumeration.specs.Places.{StandsAt};
 ghost use Rattle.survey_core.specs.Histories.{issued, is_issued, place_of, class_at, committed, is_ranked, is_eliminated, open_questions, IsOpenQuestion, withdrawals as withdrawals_of};
 ghost use Rattle.survey_core.specs.Legal.{IsEvent, IsPlace, AreEarlierAsked, OpensPlace, MayEliminate, MayIssue, MayCommit, MayClose, MayWithdraw, MayFollow, IsLegal};
 ghost use Rattle.survey_core.specs.Verdicts.{EliminateFails, IssueFails, CommitFails, CloseFails, WithdrawFails, FailsFirst};
 ghost use Rattle.survey_core.specs.States.{HasState};
-ghost use Rattle.survey_core.specs.Laws.{last_point};
 
 use crate::broken::Broken;
 use crate::events::Event;
@@ -296,18 +296,6 @@ impl Core {
         Ok(())
     }
 
-    /// Appends the event.
-    pub fn apply(&mut self, event: &Event)
-        requires of_model { IsEvent self.old.listed.criteria.levels event.now }
-        requires allowed { MayFollow self.old.listed self.old.history event.now }
-        ensures listed { self.new.listed ≡ self.old.listed }
-        ensures history { self.new.history ≡ self.old.history ++ event.now ∷ [] }
-        ensures legal { IsLegal self.new.listed self.new.history }
-        ensures met { MeetsAll self.new.listed.criteria.levels (committed self.new.listed.classes self.new.history)
-            (last_point self.new.listed.criteria.levels self.new.history) }
-    {
-    }
-
     /// The model.
     pub fn model(&self) -> Model
         ensures value { result ≡ self.now.listed.criteria }
@@ -369,6 +357,14 @@ impl Core {
         ensures class { IsClass self.now.listed.criteria result }
     {
         self.classes.class(place)
+    }
+
+    /// The place of a class, or none where the pair isn't a class of the model.
+    pub fn place(&self, pair: &Pair) -> Option<u32>
+        ensures some { IsSome result ↔ IsClass self.now.listed.criteria pair.now }
+        ensures found { IfSome result (λ place. StandsAt self.now.listed.classes place pair.now) }
+    {
+        self.classes.place(pair)
     }
 
     /// The number of withdrawals.
