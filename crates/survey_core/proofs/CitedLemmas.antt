@@ -1,5 +1,5 @@
 -- A proof speaks of the answers that it cites alone.
-use Rattle.std.proofs.Common.{◌≡◌, ◌⊎◌, ℕ, ◌+◌, ◌-◌, ◌<◌, ◌≤◌, max, List, [], ◌∷◌, ◌++◌, length, take, get_or, All, Any, Option, slice_get, ℤ, refl, ap, sym, subst, ◌∙◌, inl, inr, arith, append-nil, length-take}
+use Rattle.std.proofs.Common.{◌≡◌, ℕ, ◌-◌, ◌≤◌, List, [], ◌∷◌, take, get_or, All, Any, Option, slice_get, ℤ, refl, ap, sym, subst, ◌∙◌, inl, inr, arith, append-nil, length-take}
 use Rattle.std.specs.Option.{option_map_or}
 use Rattle.criteria_model.specs.declared.pairs.Pair.{Pair}
 use Rattle.criteria_model.specs.declared.pairs.Answer.{Answer}
@@ -10,10 +10,10 @@ use Rattle.criteria_model.specs.Answers.{gain, IsRanked}
 use Rattle.farkas_check.specs.declared.cites.Cite.{Cite}
 use Rattle.farkas_check.specs.declared.combination.Combination.{Combination}
 use Rattle.farkas_check.specs.Sums.{cited_side, cited_gain, total}
-use Rattle.farkas_check.specs.Proof.{MayWeigh, IsStrict, HasStrict, Suits, IsThere, IsStrictEnough, Proves}
+use Rattle.farkas_check.specs.Proof.{MayWeigh, IsStrict, IsStrictEnough, Proves}
 use Rattle.farkas_check.proofs.Ranking.{proved_is_ranked_lem}
 use Rattle.survey_core.specs.Marked.{greatest_cited}
-use Rattle.survey_core.proofs.ListSteps.{Each, Each-map, Each-All, All-Each, slice_get-take}
+use Rattle.survey_core.proofs.ListSteps.{Each, Each-All, All-Each, slice_get-take}
 
 greatest_each : (cites : List Cite) (most : ℕ) → greatest_cited cites ≤ most → Each (λ cite. cite.answer ≤ most) cites
 greatest_each [] most h = tt
@@ -56,16 +56,16 @@ proved_by_cited levels answers c pair side proves =
     let b : List Answer = take g answers in
     let within : All (λ cite. cite.answer ≤ g) c.answers = Each-All (λ cite. cite.answer ≤ g) c.answers (greatest_each c.answers g (omega arith)) in
     let same : All (Same b answers) c.answers =
-        λ k d h. slice_get-take g answers ((get_or c.answers k d).answer - 1) (omega (arith, within k d h, (proves.cited k d h).0)) in
+    λ k d h. slice_get-take g answers ((get_or c.answers k d).answer - 1) (omega (arith, within k d h, (proves.cited k d h).0)) in
     record {
       len = proves.len;
       scale = proves.scale;
       own = proves.own;
       cited = λ k d h. ((proves.cited k d h).0, omega (arith, within k d h, (proves.cited k d h).1, length-take g answers));
       weights =
-        λ k d h.
-        subst (λ (o : Option Answer). MayWeigh (option_map_or (λ answer. answer.side) o Equal) (get_or c.answers k d).weight) (sym (same k d h))
-        (proves.weights k d h);
+          λ k d h.
+          subst (λ (o : Option Answer). MayWeigh (option_map_or (λ answer. answer.side) o Equal) (get_or c.answers k d).weight) (sym (same k d h))
+          (proves.weights k d h);
       sums = proves.sums ∙ sym (total_same levels b answers c.answers (All-Each (Same b answers) c.answers same) c.increments);
       strict = enough_same b answers c side same proves.strict;
     }

@@ -1,5 +1,5 @@
 -- What a `Core` answers from its marks.
-use Rattle.std.proofs.Common.{◌≡◌, ◌⊎◌, ◌↔◌, ℕ, zero, suc, ◌+◌, ◌-◌, ◌<◌, ◌≤◌, Bool, true, false, cond, ◌||◌, IsTrue, IsFalse, List, [], ◌∷◌, ◌++◌, length, map, All, Some, None, slice_get, IsSomeAnd, Option, ℤ, refl, ap, sym, subst, ◌∙◌, inl, inr, arith}
+use Rattle.std.proofs.Common.{◌≡◌, ◌⊎◌, ◌↔◌, ℕ, suc, ◌+◌, ◌-◌, ◌<◌, ◌≤◌, Bool, true, false, cond, ◌||◌, IsTrue, List, [], ◌∷◌, ◌++◌, length, All, Some, slice_get, IsSomeAnd, Option, ℤ, refl, ap, sym, subst, ◌∙◌, inl, inr, arith}
 use Rattle.std.specs.List.{count_by}
 use Rattle.std.proofs.lemmas.List.Sums.{sum_by-cons}
 use Rattle.std.proofs.lemmas.Option.{slice_get_within, slice_get-map, get_or_from_slice_get}
@@ -19,9 +19,9 @@ use Rattle.pair_enumeration.specs.Listed.{Listed}
 use Rattle.survey_core.specs.declared.events.Event.{Event}
 use Rattle.survey_core.specs.declared.marks.Mark.{Mark}
 use Rattle.survey_core.specs.declared.marks.Question.{Question}
-use Rattle.survey_core.specs.Histories.{issued, is_issued, place_of, class_at, committed, is_unended, open_questions, IsOpenQuestion, is_eliminated, is_ranked}
+use Rattle.survey_core.specs.Histories.{issued, place_of, class_at, committed, is_unended, open_questions, IsOpenQuestion, is_eliminated, is_ranked}
 use Rattle.survey_core.specs.Legal.{IsPlace, AreEarlierAsked, OpensPlace}
-use Rattle.survey_core.specs.Marked.{Table, is_ranking, is_elimination, is_settled, is_open, is_ranked_mark, is_open_mark, AreSettled, IsMark, IsQuestionMark, IsKept}
+use Rattle.survey_core.specs.Marked.{Table, is_ranking, is_elimination, is_open, is_ranked_mark, is_open_mark, AreSettled, IsMark, IsQuestionMark, IsKept}
 use Rattle.survey_core.proofs.ListSteps.{slice_get_inside, Each, Each-append, Each-All, All-Each, Each-front, Each-back, some_at, at_some, filtered_range}
 use Rattle.survey_core.proofs.SoundLemmas.{IsSound, sound_history}
 use Rattle.survey_core.proofs.TableLemmas.{count_less}
@@ -62,19 +62,20 @@ meets_push : (levels : List ℕ) (answers : List Answer) (given : Answer) (point
 meets_push levels answers given point meets ranks = record {
   vector = meets.vector;
   each =
-    Each-All (Meets levels point) (answers ++ given ∷ [])
-    (Each-append (Meets levels point) answers (given ∷ []) (All-Each (Meets levels point) answers meets.each) (ranks, tt));
+      Each-All (Meets levels point) (answers ++ given ∷ [])
+      (Each-append (Meets levels point) answers (given ∷ []) (All-Each (Meets levels point) answers meets.each) (ranks, tt));
 }
 
 meets_pop : (levels : List ℕ) (answers : List Answer) (given : Answer) (point : List ℤ) → MeetsAll levels (answers ++ given ∷ []) point
     → MeetsAll levels answers point × Meets levels point given
 meets_pop levels answers given point meets =
-    let each : Each (Meets levels point) (answers ++ given ∷ []) = All-Each (Meets levels point) (answers ++ given ∷ []) meets.each in
-    (record { vector = meets.vector; each = Each-All (Meets levels point) answers (Each-front (Meets levels point) answers (given ∷ []) each) },
-    (Each-back (Meets levels point) answers (given ∷ []) each).0)
+    let each : Each (Meets levels point) (answers ++ given ∷ []) = All-Each (Meets levels point) (answers ++ given ∷ []) meets.each in (
+      record { vector = meets.vector; each = Each-All (Meets levels point) answers (Each-front (Meets levels point) answers (given ∷ []) each) },
+      (Each-back (Meets levels point) answers (given ∷ []) each).0,
+    )
 
 module _ (listed : Listed) (history : List Event) (answers : AnswersWithRoom) (table : Table) (withdrawn room : ℕ)
-  (kept : IsKept listed history answers table withdrawn room) where
+    (kept : IsKept listed history answers table withdrawn room) where
   pub mark_at : (place : ℕ) (mark : Mark) → 1 ≤ place → slice_get table.classes (place - 1) ≡ Some mark → IsMark history place mark
   mark_at place mark low at =
       let same : place - 1 + 1 ≡ place = omega arith in
@@ -96,31 +97,31 @@ module _ (listed : Listed) (history : List Event) (answers : AnswersWithRoom) (t
   pub front_at : (place : ℕ) → IsPlace listed place → AreSettled table.classes (place - 1) ↔ AreEarlierAsked history place
   front_at place is = (
     (λ all earlier low high.
-      let found : Found earlier = found_at earlier (low, omega (arith, is.1)) in
-      let mark : IsMark history earlier found.0 = mark_at earlier found.0 low found.1 in
-      elim (or_either (is_ranking found.0.ranking) found.0.issued (all (earlier - 1) found.0 (omega arith) found.1)) [
-        inl ranked ↦ inl (ranked_at earlier found.0 low found.1 ∙ ranked)
-      | inr asked ↦ inr (mark.asked ∙ asked)
-      ]),
+        let found : Found earlier = found_at earlier (low, omega (arith, is.1)) in
+        let mark : IsMark history earlier found.0 = mark_at earlier found.0 low found.1 in
+        elim (or_either (is_ranking found.0.ranking) found.0.issued (all (earlier - 1) found.0 (omega arith) found.1)) [
+          | inl ranked ↦ inl (ranked_at earlier found.0 low found.1 ∙ ranked)
+          | inr asked ↦ inr (mark.asked ∙ asked)
+        ]),
     (λ all k mark below at.
-      let from_one : 1 ≤ k + 1 = omega arith in
-      let here : slice_get table.classes (k + 1 - 1) ≡ Some mark = subst (λ (n : ℕ). slice_get table.classes n ≡ Some mark) (next_less k) at in
-      elim (all (k + 1) from_one (omega arith)) [
-        inl ranked ↦ or_left (is_ranking mark.ranking) mark.issued (sym (ranked_at (k + 1) mark from_one here) ∙ ranked)
-      | inr asked ↦ or_right (is_ranking mark.ranking) mark.issued (sym (mark_at (k + 1) mark from_one here).asked ∙ asked)
-      ]),
+        let from_one : 1 ≤ k + 1 = omega arith in
+        let here : slice_get table.classes (k + 1 - 1) ≡ Some mark = subst (λ (n : ℕ). slice_get table.classes n ≡ Some mark) (next_less k) at in
+        elim (all (k + 1) from_one (omega arith)) [
+          | inl ranked ↦ or_left (is_ranking mark.ranking) mark.issued (sym (ranked_at (k + 1) mark from_one here) ∙ ranked)
+          | inr asked ↦ or_right (is_ranking mark.ranking) mark.issued (sym (mark_at (k + 1) mark from_one here).asked ∙ asked)
+        ]),
   )
 
   pub all_at : (count_by is_ranked_mark table.classes ≡ length table.classes) ↔ ((place : ℕ) → IsPlace listed place → IsTrue (is_ranked history place))
   all_at = (
     (λ count place is.
-      let found : Found place = found_at place is in
-      elim (true_or_false (is_ranking found.0.ranking)) [
-        inl ranked ↦ ranked_at place found.0 is.0 found.1 ∙ ranked
-      | inr unranked ↦ absurd (omega (arith, count_less is_ranked_mark table.classes (place - 1) found.0 found.1 unranked, count))
-      ]),
+        let found : Found place = found_at place is in
+        elim (true_or_false (is_ranking found.0.ranking)) [
+          | inl ranked ↦ ranked_at place found.0 is.0 found.1 ∙ ranked
+          | inr unranked ↦ absurd (omega (arith, count_less is_ranked_mark table.classes (place - 1) found.0 found.1 unranked, count))
+        ]),
     (λ all. count_all is_ranked_mark table.classes
-      (λ k mark at.
+        (λ k mark at.
         let from_one : 1 ≤ k + 1 = omega arith in
         let here : slice_get table.classes (k + 1 - 1) ≡ Some mark = subst (λ (n : ℕ). slice_get table.classes n ≡ Some mark) (next_less k) at in
         sym (ranked_at (k + 1) mark from_one here) ∙ all (k + 1) (from_one, omega (arith, slice_get_within table.classes k mark at, kept.table_of.len)))),
@@ -158,13 +159,13 @@ module _ (listed : Listed) (history : List Event) (answers : AnswersWithRoom) (t
       → is_open question.ending ≡ false → ¬ IsOpenQuestion history number
   ended_question_at number question low at is = λ open_now.
       let found : (1 ≤ number) × (number < 1 + length (issued history)) × (is_unended history number ≡ true) =
-          filtered_range (is_unended history) 1 (length (issued history)) number open_now in
+      filtered_range (is_unended history) 1 (length (issued history)) number open_now in
       let both : true ≡ false = sym found.2 ∙ unended_at number question low at ∙ is in cc
 
   pub unasked_at : (number : ℕ) → (number ≡ 0) ⊎ (length table.questions < number) → ¬ IsOpenQuestion history number
   unasked_at number is = λ open_now.
       let found : (1 ≤ number) × (number < 1 + length (issued history)) × (is_unended history number ≡ true) =
-          filtered_range (is_unended history) 1 (length (issued history)) number open_now in
+      filtered_range (is_unended history) 1 (length (issued history)) number open_now in
       elim is [ inl none ↦ absurd (omega (arith, found.0)) | inr more ↦ absurd (omega (arith, found.1, issued_len)) ]
 
   -- an issued class is one of the model
@@ -195,21 +196,22 @@ module _ (listed : Listed) (history : List Event) (answers : AnswersWithRoom) (t
       → IsTrue r ↔ Opens model.levels answers.answers pair plus minus → IsTrue r ↔ OpensPlace listed history place plus minus
   opens_at model place pair plus minus r same at exactly =
       let here : IsTrue r ↔ Opens levels (committed listed.classes history) pair plus minus =
-          subst (λ (l : List Answer). IsTrue r ↔ Opens levels l pair plus minus) kept.answered
-          (subst (λ (m : Criteria). IsTrue r ↔ Opens m.levels answers.answers pair plus minus) same exactly) in
+      subst (λ (l : List Answer). IsTrue r ↔ Opens levels l pair plus minus) kept.answered
+      (subst (λ (m : Criteria). IsTrue r ↔ Opens m.levels answers.answers pair plus minus) same exactly) in
       let Opened : Pair → Type 0 = λ pair. Opens levels (committed listed.classes history) pair plus minus in
       ((λ h. some_at (class_at listed.classes place) Opened pair at (here.0 h)), (λ h. here.1 (at_some (class_at listed.classes place) Opened pair at h)))
 
   pub meets_at : (model : Criteria) (place : ℕ) (pair : Pair) (side : Side) (point : List ℤ) → model ≡ listed.criteria → Stands place pair
       → (MeetsAll model.levels answers.answers point × Ranks model.levels point pair side)
-        ↔ IsSomeAnd (class_at listed.classes place) (λ pair. MeetsAll levels (committed listed.classes history ++ record { pair = pair; side = side } ∷ []) point)
+      ↔ IsSomeAnd (class_at listed.classes place) (λ pair. MeetsAll levels (committed listed.classes history ++ record { pair = pair; side = side } ∷ []) point)
   meets_at model place pair side point same at =
       let With : List Answer → Pair → Type 0 = λ l pair. MeetsAll levels (l ++ record { pair = pair; side = side } ∷ []) point in
       let Both : Criteria → Type 0 =
-          λ m. (MeetsAll m.levels answers.answers point × Ranks m.levels point pair side) ↔ IsSomeAnd (class_at listed.classes place) (With (committed listed.classes history)) in
+      λ m. (MeetsAll m.levels answers.answers point × Ranks m.levels point pair side) ↔ IsSomeAnd (class_at listed.classes place) (With (committed listed.classes history)) in
       let given : Answer = record { pair = pair; side = side } in
-      subst Both (sym same)
-      ((λ h. some_at (class_at listed.classes place) (With (committed listed.classes history)) pair at
-        (subst (λ (l : List Answer). With l pair) kept.answered (meets_push levels answers.answers given point h.0 h.1))),
-      (λ h. meets_pop levels answers.answers given point
-        (subst (λ (l : List Answer). With l pair) (sym kept.answered) (at_some (class_at listed.classes place) (With (committed listed.classes history)) pair at h))))
+      subst Both (sym same) (
+        (λ h. some_at (class_at listed.classes place) (With (committed listed.classes history)) pair at
+            (subst (λ (l : List Answer). With l pair) kept.answered (meets_push levels answers.answers given point h.0 h.1))),
+        (λ h. meets_pop levels answers.answers given point
+            (subst (λ (l : List Answer). With l pair) (sym kept.answered) (at_some (class_at listed.classes place) (With (committed listed.classes history)) pair at h))),
+      )

@@ -25,10 +25,10 @@ pub Each-filter : {X : Type 0} (P : X → Type 0) (p : X → Bool) (xs : List X)
 Each-filter {X} P p [] hs = tt
 Each-filter {X} P p (x ∷ xs) hs =
     let go : (b : Bool) → p x ≡ b → Each (λ x. P x × (p x ≡ true)) (cond b (x ∷ filter p xs) (filter p xs)) =
-        λ b e. elim b as (λ b. p x ≡ b → Each (λ x. P x × (p x ≡ true)) (cond b (x ∷ filter p xs) (filter p xs))) [
-          true ↦ λ yes. ((hs.0, yes), Each-filter P p xs hs.1)
-        | false ↦ λ no. Each-filter P p xs hs.1
-        ] e
+    λ b e. elim b as (λ b. p x ≡ b → Each (λ x. P x × (p x ≡ true)) (cond b (x ∷ filter p xs) (filter p xs))) [
+      | true ↦ λ yes. ((hs.0, yes), Each-filter P p xs hs.1)
+      | false ↦ λ no. Each-filter P p xs hs.1
+    ] e
     in go (p x) refl
 
 pub fold-push : {A B : Type 0} (f : B → A → B) (b : B) (xs : List A) (x : A) → fold f b (xs ++ x ∷ []) ≡ f (fold f b xs) x
@@ -41,10 +41,10 @@ pub flat_map-filter : {X Y : Type 0} (f : X → List Y) (p : X → Bool) (q : Y 
 flat_map-filter f p q h [] = refl
 flat_map-filter f p q h (x ∷ xs) =
     let go : (b : Bool) → filter q (f x) ≡ cond b (f x) [] → flat_map f (cond b (x ∷ filter p xs) (filter p xs)) ≡ filter q (f x ++ flat_map f xs) =
-        λ b. elim b as (λ b. filter q (f x) ≡ cond b (f x) [] → flat_map f (cond b (x ∷ filter p xs) (filter p xs)) ≡ filter q (f x ++ flat_map f xs)) [
-          true ↦ λ e. rw (filter-append q (f x) (flat_map f xs), e, flat_map-cons f x (filter p xs), flat_map-filter f p q h xs) refl
-        | false ↦ λ e. rw (filter-append q (f x) (flat_map f xs), e, flat_map-filter f p q h xs) refl
-        ]
+    λ b. elim b as (λ b. filter q (f x) ≡ cond b (f x) [] → flat_map f (cond b (x ∷ filter p xs) (filter p xs)) ≡ filter q (f x ++ flat_map f xs)) [
+      | true ↦ λ e. rw (filter-append q (f x) (flat_map f xs), e, flat_map-cons f x (filter p xs), flat_map-filter f p q h xs) refl
+      | false ↦ λ e. rw (filter-append q (f x) (flat_map f xs), e, flat_map-filter f p q h xs) refl
+    ]
     in rw (flat_map-cons f x xs) (go (p x) (h x))
 
 pub Each-All : {X : Type 0} (P : X → Type 0) (xs : List X) → Each P xs → All P xs
@@ -121,16 +121,17 @@ any_at (x ∷ xs) (suc k) n h = ap (λ b. (x == n) || b) (any_at xs k n h) ∙ o
 
 Each-range : (from n : ℕ) → Each (λ q. (from ≤ q) × (q < from + n)) (range_with_len from n)
 Each-range from zero = tt
-Each-range from (suc n) =
-    ((omega arith, omega arith),
-    Each-map (λ q. (from + 1 ≤ q) × (q < from + 1 + n)) (λ q. (from ≤ q) × (q < from + suc n)) (λ q h. (omega (arith, h.0), omega (arith, h.1))) (range_with_len (from + 1) n) (Each-range (from + 1) n))
+Each-range from (suc n) = (
+  (omega arith, omega arith),
+  Each-map (λ q. (from + 1 ≤ q) × (q < from + 1 + n)) (λ q. (from ≤ q) × (q < from + suc n)) (λ q h. (omega (arith, h.0), omega (arith, h.1))) (range_with_len (from + 1) n) (Each-range (from + 1) n),
+)
 
 -- a number that a filter of a range contains
 pub filtered_range : (p : ℕ → Bool) (from n q : ℕ) → Contains (filter p (range_with_len from n)) q → (from ≤ q) × (q < from + n) × (p q ≡ true)
 filtered_range p from n q (k, within, at) =
     let Range : ℕ → Type 0 = λ q. (from ≤ q) × (q < from + n) in
     let found : Range (get_or (filter p (range_with_len from n)) k q) × (p (get_or (filter p (range_with_len from n)) k q) ≡ true) =
-        Each-All (λ q. Range q × (p q ≡ true)) (filter p (range_with_len from n)) (Each-filter Range p (range_with_len from n) (Each-range from n)) k q within in
+    Each-All (λ q. Range q × (p q ≡ true)) (filter p (range_with_len from n)) (Each-filter Range p (range_with_len from n) (Each-range from n)) k q within in
     let here : Range q × (p q ≡ true) = subst (λ (x : ℕ). Range x × (p x ≡ true)) at found in
     (here.0.0, here.0.1, here.1)
 

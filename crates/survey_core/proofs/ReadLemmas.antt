@@ -1,18 +1,17 @@
 -- What the marks say of a history.
-use Rattle.std.proofs.Common.{◌≡◌, ◌⊎◌, ◌↔◌, ℕ, zero, suc, ◌+◌, ◌-◌, ◌<◌, ◌≤◌, ◌==◌, Bool, true, false, cond, not, ◌||◌, IsTrue, IsFalse, List, [], ◌∷◌, ◌++◌, length, map, get_or, All, Contains, Option, Some, None, slice_get, refl, ap, sym, subst, ◌∙◌, inl, inr, arith}
-use Rattle.std.specs.Option.{option_map, option_map_or}
+use Rattle.std.proofs.Common.{◌≡◌, ◌⊎◌, ℕ, zero, suc, ◌+◌, ◌-◌, ◌<◌, ◌≤◌, ◌==◌, Bool, true, false, cond, not, ◌||◌, List, [], ◌∷◌, length, map, All, Contains, Option, Some, None, slice_get, refl, ap, sym, subst, ◌∙◌, inl, inr, arith}
+use Rattle.std.specs.Option.{option_map}
 use Rattle.std.specs.List.{filter, filter_map, flat_map, list_any, count_by, range_with_len, cons_option}
 use Rattle.std.proofs.lemmas.List.Concat.{flat_map-cons}
 use Rattle.std.proofs.lemmas.List.Folds.{list_any-append}
 use Rattle.std.proofs.lemmas.List.Sums.{sum_by-cons}
-use Rattle.std.proofs.lemmas.Option.{none-some, same_Some, slice_get-map, slice_get_within, get_or_from_slice_get}
+use Rattle.std.proofs.lemmas.Option.{none-some, same_Some, slice_get_within, get_or_from_slice_get}
 use Rattle.std.proofs.lemmas.Bool.{cases_lt}
 use Rattle.criteria_model.proofs.RowLemmas.{length-map}
 use Rattle.criteria_model.specs.declared.pairs.Side.{Side}
 use Rattle.criteria_model.specs.declared.pairs.Pair.{Pair}
 use Rattle.criteria_model.specs.declared.pairs.Answer.{Answer}
 use Rattle.criteria_model.specs.Pairs.{IsFit}
-use Rattle.criteria_model.specs.Classes.{IsClass}
 use Rattle.pair_enumeration.specs.Listed.{Listed, IsListed}
 use Rattle.survey_core.specs.declared.events.Event.{Event}
 use Rattle.survey_core.specs.declared.events.Event.TheVariants.{Eliminate, Issue, Commit, Close, Withdraw}
@@ -22,9 +21,9 @@ use Rattle.survey_core.specs.declared.marks.Ending.{Ending}
 use Rattle.survey_core.specs.declared.marks.Ending.TheVariants.{Open, Committed, Closed}
 use Rattle.survey_core.specs.declared.marks.Mark.{Mark}
 use Rattle.survey_core.specs.declared.marks.Question.{Question}
-use Rattle.survey_core.specs.Kinds.{eliminates, commits, closes}
-use Rattle.survey_core.specs.Histories.{standing, issued, is_issued, class_at, class_of, place_of, answer_of, committed, ends, is_unended, open_questions, IsOpenQuestion, is_eliminated, commits_class, is_committed, is_ranked}
-use Rattle.survey_core.specs.Marked.{Resting, numbered, resting, ranking_by, rankings, marked_rankings, ending_by, endings, marked_endings, is_ranking, is_elimination, is_open, is_open_mark, IsMark, IsQuestionMark}
+use Rattle.survey_core.specs.Kinds.{eliminates}
+use Rattle.survey_core.specs.Histories.{standing, issued, class_at, class_of, place_of, answer_of, committed, ends, is_unended, open_questions, is_eliminated, commits_class, is_committed, is_ranked}
+use Rattle.survey_core.specs.Marked.{Resting, numbered, resting, ranking_by, marked_rankings, ending_by, marked_endings, is_ranking, is_elimination, is_open, is_open_mark, IsMark, IsQuestionMark}
 use Rattle.survey_core.proofs.ListSteps.{Each, Each-All, and_then_some}
 use Rattle.survey_core.proofs.StandingLemmas.{step}
 
@@ -137,7 +136,7 @@ length_filter_range : {X : Type 0} (p : ℕ → Bool) (r : X → Bool) (from : �
 length_filter_range p r from [] h = refl
 length_filter_range {X} p r from (x ∷ xs) h =
     let ih : length (filter p (range_with_len (from + 1) (length xs))) ≡ count_by r xs =
-        length_filter_range p r (from + 1) xs (λ k y at. ap p (omega arith) ∙ h (suc k) y at) in
+    length_filter_range p r (from + 1) xs (λ k y at. ap p (omega arith) ∙ h (suc k) y at) in
     let here : p from ≡ r x = ap p (omega arith) ∙ h 0 x refl in
     length_cond (p from) from (filter p (range_with_len (from + 1) (length xs))) ∙ ap (λ b. cond b 1 0 + length (filter p (range_with_len (from + 1) (length xs)))) here
     ∙ ap (λ n. cond (r x) 1 0 + n) ih ∙ sym (sum_by-cons (λ y. cond (r y) 1 0) x xs)
@@ -189,7 +188,7 @@ given_fits listed asked model question side answer is =
     let made : Pair → Answer = λ pair. record { pair = pair; side = side } in
     let given : (pair : Pair) × (class_of listed.classes asked question ≡ Some pair) × (made pair ≡ answer) = map_some made (class_of listed.classes asked question) answer is in
     let at : (place : ℕ) × (place_of asked question ≡ Some place) × (class_at listed.classes place ≡ Some given.0) =
-        and_then_some (class_at listed.classes) (place_of asked question) given.0 given.1 in
+    and_then_some (class_at listed.classes) (place_of asked question) given.0 given.1 in
     subst (λ (a : Answer). IsFit listed.criteria.levels a.pair) given.2 (class_fits listed (at.0 - 1) given.0 model at.2)
 
 answer_fits : (listed : Listed) (asked : List ℕ) → IsListed listed → (event : Event) (answer : Answer) → answer_of listed.classes asked event ≡ Some answer

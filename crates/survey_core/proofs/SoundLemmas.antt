@@ -1,7 +1,7 @@
 -- What the standing events of a legal history say, event by event.
-use Rattle.std.proofs.Common.{◌≡◌, ◌⊎◌, ℕ, zero, suc, ◌+◌, ◌-◌, ◌<◌, ◌≤◌, Bool, true, false, cond, not, ◌||◌, min, nat_lt, ◌==◌, List, [], ◌∷◌, ◌++◌, length, take, get_or, All, Option, Some, None, slice_get, IsSomeAnd, ℤ, refl, ap, sym, subst, ◌∙◌, inl, inr, arith, append-nil, length-take, length-append}
-use Rattle.std.specs.Option.{option_map, option_map_or, option_and_then}
-use Rattle.std.specs.List.{filter, filter_map, list_any, cons_option}
+use Rattle.std.proofs.Common.{◌≡◌, ℕ, zero, suc, ◌+◌, ◌-◌, ◌<◌, ◌≤◌, true, false, nat_lt, List, [], ◌∷◌, ◌++◌, length, take, Option, Some, None, slice_get, ℤ, refl, ap, sym, subst, ◌∙◌, inl, inr, arith, append-nil, length-take, length-append}
+use Rattle.std.specs.Option.{option_map}
+use Rattle.std.specs.List.{filter, filter_map, cons_option}
 use Rattle.std.proofs.lemmas.List.{take-append-le}
 use Rattle.std.proofs.lemmas.List.Elements.{filter_map-append}
 use Rattle.std.proofs.lemmas.Bool.Decides.{nat_tests}
@@ -12,15 +12,15 @@ use Rattle.criteria_model.specs.declared.pairs.Side.{Side}
 use Rattle.criteria_model.specs.Answers.{MeetsAll, IsRanked}
 use Rattle.farkas_check.specs.declared.combination.Combination.{Combination}
 use Rattle.farkas_check.specs.Proof.{IsThere, Proves}
-use Rattle.pair_enumeration.specs.Listed.{Listed, IsListed}
+use Rattle.pair_enumeration.specs.Listed.{Listed}
 use Rattle.survey_core.specs.declared.events.Event.{Event}
 use Rattle.survey_core.specs.declared.events.Event.TheVariants.{Eliminate, Issue, Commit, Close, Withdraw}
-use Rattle.survey_core.specs.Kinds.{issued_place, is_commit, commits, closes}
-use Rattle.survey_core.specs.Histories.{standing, standing_after, issued, is_issued, is_unended, place_of, class_at, class_of, answer_of, committed, without_answer}
-use Rattle.survey_core.specs.Legal.{IsPlace, IsEvent, MayEliminate, MayIssue, MayCommit, MayClose, MayWithdraw, MayFollow, IsLegal}
+use Rattle.survey_core.specs.Kinds.{issued_place}
+use Rattle.survey_core.specs.Histories.{standing, issued, is_issued, is_unended, place_of, class_at, class_of, answer_of, committed}
+use Rattle.survey_core.specs.Legal.{IsPlace, MayEliminate, MayIssue, MayCommit, MayWithdraw, MayFollow, IsLegal}
 use Rattle.survey_core.specs.Marked.{greatest_cited, rests_on, Resting, numbered, resting}
 use Rattle.survey_core.proofs.ListSteps.{Each, Each-append, Each-map, Each-filter, All-Each, slice_get-take, slice_get-append, slice_get-push, slice_get-last, take-take, filter_map-same, some_and, and_then_some, any_at, filtered_range, take_whole, slice_get_inside, take_next}
-use Rattle.survey_core.proofs.StandingLemmas.{standing-push, issued-push, step, commit_count, commit_count-append, numbered-append, CitesUpTo, numbered-without, OfCommits, length-filter_map, filter_map-without, Each-events}
+use Rattle.survey_core.proofs.StandingLemmas.{standing-push, issued-push, commit_count, numbered-append, CitesUpTo, numbered-without, OfCommits, length-filter_map, filter_map-without, Each-events}
 use Rattle.survey_core.proofs.CitedLemmas.{greatest_within, ranked_by_cited}
 
 -- a standing Eliminate: the first answers, up to the last that it cites, rank the class
@@ -65,7 +65,7 @@ sound_longer listed asked more answers others level (Eliminate worker place verd
   pair = s.pair;
   class = s.class;
   ranked =
-    subst (λ (l : List Answer). IsRanked listed.criteria.levels l s.pair verdict) (sym (take-append-le level answers others s.within)) s.ranked;
+      subst (λ (l : List Answer). IsRanked listed.criteria.levels l s.pair verdict) (sym (take-append-le level answers others s.within)) s.ranked;
 }
 sound_longer listed asked more answers others level (Issue desk place plus minus) s = tt
 sound_longer listed asked more answers others level (Commit desk question side plus minus point) s = record {
@@ -231,13 +231,13 @@ module _ (listed : Listed) (history : List Event) (sound : IsSound listed histor
   sound_made after more others level event asked_is answers_is resting_is places once here = record {
     places = subst (λ (asked : List ℕ). Each (IsPlace listed) asked) (sym asked_is) (Each-append (IsPlace listed) (issued history) more sound.places places);
     once =
-      subst (λ (asked : List ℕ). (i j place : ℕ) → slice_get asked i ≡ Some place → slice_get asked j ≡ Some place → i ≡ j) (sym asked_is) once;
+        subst (λ (asked : List ℕ). (i j place : ℕ) → slice_get asked i ≡ Some place → slice_get asked j ≡ Some place → i ≡ j) (sym asked_is) once;
     each =
-      are_sound listed after (issued history ++ more) (answers ++ others) (resting history ++ record { level = level; event = event } ∷ []) asked_is answers_is resting_is
-      (Each-append (λ e. IsSoundAt listed (issued history ++ more) (answers ++ others) e.level e.event) (resting history) (record { level = level; event = event } ∷ [])
-      (Each-map (λ e. IsSoundAt listed (issued history) answers e.level e.event) (λ e. IsSoundAt listed (issued history ++ more) (answers ++ others) e.level e.event)
-      (λ e. sound_longer listed (issued history) more answers others e.level e.event) (resting history) sound.each)
-      (here, tt));
+        are_sound listed after (issued history ++ more) (answers ++ others) (resting history ++ record { level = level; event = event } ∷ []) asked_is answers_is resting_is
+        (Each-append (λ e. IsSoundAt listed (issued history ++ more) (answers ++ others) e.level e.event) (resting history) (record { level = level; event = event } ∷ [])
+        (Each-map (λ e. IsSoundAt listed (issued history) answers e.level e.event) (λ e. IsSoundAt listed (issued history ++ more) (answers ++ others) e.level e.event)
+        (λ e. sound_longer listed (issued history) more answers others e.level e.event) (resting history) sound.each)
+        (here, tt));
   }
 
   once_same : (i j place : ℕ) → slice_get (issued history ++ []) i ≡ Some place → slice_get (issued history ++ []) j ≡ Some place → i ≡ j
@@ -248,11 +248,11 @@ module _ (listed : Listed) (history : List Event) (sound : IsSound listed histor
   sound_eliminate worker place verdict combination may =
       let event : Event = Eliminate worker place verdict combination in
       let proved : (pair : Pair) × (class_at listed.classes place ≡ Some pair) × Proves listed.criteria.levels answers combination pair verdict =
-          some_and (class_at listed.classes place) (λ pair. Proves listed.criteria.levels answers combination pair verdict) may.proved in
+      some_and (class_at listed.classes place) (λ pair. Proves listed.criteria.levels answers combination pair verdict) may.proved in
       let within : greatest_cited combination.answers ≤ length answers =
-          greatest_within combination.answers (length answers)
-          (Each-map (IsThere answers) (λ cite. cite.answer ≤ length answers) (λ cite h. h.1) combination.answers
-          (All-Each (IsThere answers) combination.answers proved.2.cited)) in
+      greatest_within combination.answers (length answers)
+      (Each-map (IsThere answers) (λ cite. cite.answer ≤ length answers) (λ cite h. h.1) combination.answers
+      (All-Each (IsThere answers) combination.answers proved.2.cited)) in
       let here : IsSoundAt listed (issued history) answers (greatest_cited combination.answers) event = record {
         greatest = refl;
         within = within;
@@ -275,15 +275,15 @@ module _ (listed : Listed) (history : List Event) (sound : IsSound listed histor
       let event : Event = Issue desk place plus minus in
       let asked : List ℕ = issued history in
       let twice : (i p : ℕ) → slice_get asked i ≡ Some p → place ≡ p → ⊥ =
-          λ i p found same.
-          (let yes : is_issued history place ≡ true = any_at asked i place (found ∙ ap Some (sym same)) in
-          let both : true ≡ false = sym yes ∙ may.unasked in cc) in
+      λ i p found same.
+      (let yes : is_issued history place ≡ true = any_at asked i place (found ∙ ap Some (sym same)) in
+      let both : true ≡ false = sym yes ∙ may.unasked in cc) in
       let once : (i j p : ℕ) → slice_get (asked ++ place ∷ []) i ≡ Some p → slice_get (asked ++ place ∷ []) j ≡ Some p → i ≡ j =
-          λ i j p at_i at_j.
-          elim (slice_get-push asked place i p at_i) [
-            inl a ↦ elim (slice_get-push asked place j p at_j) [ inl b ↦ sound.once i j p a b | inr b ↦ absurd (twice i p a b.1) ]
-          | inr a ↦ elim (slice_get-push asked place j p at_j) [ inl b ↦ absurd (twice j p b a.1) | inr b ↦ omega (arith, a.0, b.0) ]
-          ] in
+      λ i j p at_i at_j.
+      elim (slice_get-push asked place i p at_i) [
+        | inl a ↦ elim (slice_get-push asked place j p at_j) [ inl b ↦ sound.once i j p a b | inr b ↦ absurd (twice i p a b.1) ]
+        | inr a ↦ elim (slice_get-push asked place j p at_j) [ inl b ↦ absurd (twice j p b a.1) | inr b ↦ omega (arith, a.0, b.0) ]
+      ] in
       sound_made (history ++ event ∷ []) (place ∷ []) [] 0 event (issued-push history event)
       (committed-issue desk place plus minus ∙ sym (append-nil answers)) (resting-push event (standing-push history event)) (may.class, tt) once tt
 
@@ -293,12 +293,12 @@ module _ (listed : Listed) (history : List Event) (sound : IsSound listed histor
       let event : Event = Commit desk question side plus minus point in
       let asked : List ℕ = issued history in
       let met : (pair : Pair) × (class_of listed.classes asked question ≡ Some pair) × MeetsAll listed.criteria.levels (answers ++ record { pair = pair; side = side } ∷ []) point =
-          some_and (class_of listed.classes asked question) (λ pair. MeetsAll listed.criteria.levels (answers ++ record { pair = pair; side = side } ∷ []) point) may.met in
+      some_and (class_of listed.classes asked question) (λ pair. MeetsAll listed.criteria.levels (answers ++ record { pair = pair; side = side } ∷ []) point) may.met in
       let at : (place : ℕ) × (place_of asked question ≡ Some place) × (class_at listed.classes place ≡ Some met.0) =
-          and_then_some (class_at listed.classes) (place_of asked question) met.0 met.1 in
+      and_then_some (class_at listed.classes) (place_of asked question) met.0 met.1 in
       let given : Answer = record { pair = met.0; side = side } in
       let whole : take (length answers + 1) (answers ++ given ∷ []) ≡ answers ++ given ∷ [] =
-          take_whole (length answers + 1) (answers ++ given ∷ []) (omega (arith, length-append answers (given ∷ []))) in
+      take_whole (length answers + 1) (answers ++ given ∷ []) (omega (arith, length-append answers (given ∷ []))) in
       let last : length answers ≡ length answers + 1 - 1 = omega arith in
       let here : SoundCommit listed (asked ++ []) (answers ++ given ∷ []) (length answers + 1) question side point = record {
         numbered_from_one = omega arith;
@@ -324,15 +324,15 @@ module _ (listed : Listed) (history : List Event) (sound : IsSound listed histor
       record {
         places = subst (λ (asked : List ℕ). Each (IsPlace listed) asked) (sym asked_is) sound.places;
         once =
-          subst (λ (asked : List ℕ). (i j place : ℕ) → slice_get asked i ≡ Some place → slice_get asked j ≡ Some place → i ≡ j) (sym asked_is) sound.once;
+            subst (λ (asked : List ℕ). (i j place : ℕ) → slice_get asked i ≡ Some place → slice_get asked j ≡ Some place → i ≡ j) (sym asked_is) sound.once;
         each =
-          are_sound listed after (issued history) (take left answers) (filter (λ e. nat_lt e.level n) (resting history)) asked_is
-          (committed-withdraw desk n may.last_answer.1) (resting-withdraw desk n may.last_answer.0 may.last_answer.1)
-          (Each-map (λ e. IsSoundAt listed (issued history) answers e.level e.event × (nat_lt e.level n ≡ true))
-          (λ e. IsSoundAt listed (issued history) (take left answers) e.level e.event)
-          (λ e s. sound_shorter listed (issued history) answers left e.level e.event (omega (arith, below e.level n s.1, may.last_answer.1)) (omega arith) s.0)
-          (filter (λ e. nat_lt e.level n) (resting history))
-          (Each-filter (λ e. IsSoundAt listed (issued history) answers e.level e.event) (λ e. nat_lt e.level n) (resting history) sound.each));
+            are_sound listed after (issued history) (take left answers) (filter (λ e. nat_lt e.level n) (resting history)) asked_is
+            (committed-withdraw desk n may.last_answer.1) (resting-withdraw desk n may.last_answer.0 may.last_answer.1)
+            (Each-map (λ e. IsSoundAt listed (issued history) answers e.level e.event × (nat_lt e.level n ≡ true))
+            (λ e. IsSoundAt listed (issued history) (take left answers) e.level e.event)
+            (λ e s. sound_shorter listed (issued history) answers left e.level e.event (omega (arith, below e.level n s.1, may.last_answer.1)) (omega arith) s.0)
+            (filter (λ e. nat_lt e.level n) (resting history))
+            (Each-filter (λ e. IsSoundAt listed (issued history) answers e.level e.event) (λ e. nat_lt e.level n) (resting history) sound.each));
       }
 
   -- what may follow keeps it

@@ -1,12 +1,12 @@
 -- What stands after one more event.
-use Rattle.std.proofs.Common.{◌≡◌, ℕ, zero, suc, ◌+◌, ◌-◌, ◌<◌, ◌≤◌, Bool, true, false, cond, not, ◌||◌, max, nat_lt, ◌==◌, List, [], ◌∷◌, ◌++◌, length, take, Option, Some, None, refl, ap, sym, ◌∙◌, arith}
-use Rattle.std.specs.List.{fold, filter, filter_map, list_any, cons_option, count_by}
+use Rattle.std.proofs.Common.{◌≡◌, ℕ, zero, suc, ◌+◌, ◌-◌, ◌≤◌, Bool, true, false, cond, not, ◌||◌, max, nat_lt, ◌==◌, List, [], ◌∷◌, ◌++◌, length, take, Option, Some, None, refl, ap, sym, ◌∙◌, arith}
+use Rattle.std.specs.List.{filter, filter_map, list_any, cons_option}
 use Rattle.std.proofs.lemmas.List.Elements.{filter_map-append}
 use Rattle.std.proofs.lemmas.Bool.Decides.{nat_tests}
 use Rattle.farkas_check.specs.declared.cites.Cite.{Cite}
 use Rattle.survey_core.specs.declared.events.Event.{Event}
 use Rattle.survey_core.specs.declared.events.Event.TheVariants.{Eliminate, Issue, Commit, Close, Withdraw}
-use Rattle.survey_core.specs.Kinds.{issued_place, is_commit, is_withdraw, cites}
+use Rattle.survey_core.specs.Kinds.{issued_place, is_commit, cites}
 use Rattle.survey_core.specs.Histories.{standing, standing_after, issued, is_taken, without_answer}
 use Rattle.survey_core.specs.Marked.{greatest_cited, rests_on, Resting, numbered}
 use Rattle.survey_core.proofs.ListSteps.{Each, fold-push}
@@ -34,16 +34,16 @@ pub any_commit_none : (events : List Event) → commit_count events ≡ 0 → li
 any_commit_none [] h = refl
 any_commit_none (event ∷ events) h =
     elim (is_commit event) as (λ b. cond b 1 0 + commit_count events ≡ 0 → (b || list_any is_commit events) ≡ false) [
-      true ↦ λ h. absurd (omega arith)
-    | false ↦ λ h. any_commit_none events (omega arith)
+      | true ↦ λ h. absurd (omega arith)
+      | false ↦ λ h. any_commit_none events (omega arith)
     ] h
 
 pub any_commit_some : (events : List Event) → 1 ≤ commit_count events → list_any is_commit events ≡ true
 any_commit_some [] h = absurd (omega arith)
 any_commit_some (event ∷ events) h =
     elim (is_commit event) as (λ b. 1 ≤ cond b 1 0 + commit_count events → (b || list_any is_commit events) ≡ true) [
-      true ↦ λ h. refl
-    | false ↦ λ h. any_commit_some events (omega arith)
+      | true ↦ λ h. refl
+      | false ↦ λ h. any_commit_some events (omega arith)
     ] h
 
 pub numbered-append : (before : ℕ) (xs ys : List Event) → numbered before (xs ++ ys) ≡ numbered before xs ++ numbered (before + commit_count xs) ys
@@ -75,10 +75,10 @@ cites_greatest n (cite ∷ cites) some most =
 commit_taken : (before n : ℕ) (later : List Event) → n ≡ before + commit_count later → not (list_any is_commit later) ≡ not (nat_lt before n)
 commit_taken before n later count =
     let go : (c : ℕ) → c ≡ commit_count later → not (list_any is_commit later) ≡ not (nat_lt before n) =
-        λ c. elim c as (λ c. c ≡ commit_count later → not (list_any is_commit later) ≡ not (nat_lt before n)) [
-          zero ↦ λ e. rw (any_commit_none later (sym e)) (grind (arith, nat_tests))
-        | suc c ↦ λ e. rw (any_commit_some later (omega arith)) (grind (arith, nat_tests))
-        ]
+    λ c. elim c as (λ c. c ≡ commit_count later → not (list_any is_commit later) ≡ not (nat_lt before n)) [
+      | zero ↦ λ e. rw (any_commit_none later (sym e)) (grind (arith, nat_tests))
+      | suc c ↦ λ e. rw (any_commit_some later (omega arith)) (grind (arith, nat_tests))
+    ]
     in go (commit_count later) refl
 
 -- a withdrawal takes out what rests on all answers
@@ -94,10 +94,10 @@ same_base : (b c : ℕ) (event : Event) (rest : List Event) (t : Bool) → rests
     → ((b c : ℕ) → numbered b rest ≡ numbered c rest) → numbered b (cond t rest (event ∷ rest)) ≡ numbered c (cond t rest (event ∷ rest))
 same_base b c event rest t head ih =
     elim t as (λ t. numbered b (cond t rest (event ∷ rest)) ≡ numbered c (cond t rest (event ∷ rest))) [
-      true ↦ ih b c
-    | false ↦
-        (let first : ℕ → Resting = λ level. record { level = level; event = event } in
-        ap (λ level. first level ∷ numbered (b + step event) rest) head ∙ ap (λ others. first (rests_on c event) ∷ others) (ih (b + step event) (c + step event)))
+      | true ↦ ih b c
+      | false ↦
+          (let first : ℕ → Resting = λ level. record { level = level; event = event } in
+          ap (λ level. first level ∷ numbered (b + step event) rest) head ∙ ap (λ others. first (rests_on c event) ∷ others) (ih (b + step event) (c + step event)))
     ]
 
 -- behind the last Commit nothing is left whose number rests on what stands before it
@@ -136,10 +136,10 @@ numbered-without before n (event ∷ later) count some within =
     let head : Resting = record { level = rests_on before event; event = event } in
     let ih : numbered (before + step event) rest ≡ left = numbered-without (before + step event) n later (omega arith) some within.1 in
     let go : (b : Bool) → nat_lt (rests_on before event) n ≡ b → numbered before (cond (not b) rest (event ∷ rest)) ≡ cond b (head ∷ left) left =
-        λ b. elim b as (λ b. nat_lt (rests_on before event) n ≡ b → numbered before (cond (not b) rest (event ∷ rest)) ≡ cond b (head ∷ left) left) [
-          true ↦ λ yes. ap (λ others. head ∷ others) ih
-        | false ↦ λ no. same_without before n event later count no ∙ ih
-        ]
+    λ b. elim b as (λ b. nat_lt (rests_on before event) n ≡ b → numbered before (cond (not b) rest (event ∷ rest)) ≡ cond b (head ∷ left) left) [
+      | true ↦ λ yes. ap (λ others. head ∷ others) ih
+      | false ↦ λ no. same_without before n event later count no ∙ ih
+    ]
     in rw (is_taken_level before n event later count some within.0) (go (nat_lt (rests_on before event) n) refl)
 
 module _ {Y : Type 0} (f : Event → Option Y) where
@@ -162,8 +162,8 @@ module _ {Y : Type 0} (f : Event → Option Y) where
   same_either : (event : Event) (rest : List Event) (t : Bool) → f event ≡ None → filter_map f (cond t rest (event ∷ rest)) ≡ filter_map f rest
   same_either event rest t none =
       elim t as (λ t. filter_map f (cond t rest (event ∷ rest)) ≡ filter_map f rest) [
-        true ↦ refl
-      | false ↦ rw (none) refl
+        | true ↦ refl
+        | false ↦ rw (none) refl
       ]
 
   last_or_kept : (event : Event) (later : List Event) (rest : List Event) (y : Y) → f event ≡ Some y
@@ -173,15 +173,15 @@ module _ {Y : Type 0} (f : Event → Option Y) where
       let whole : List Y = filter_map f later in
       let Kept : Bool → Type 0 = λ b. filter_map f (cond (not b) rest (event ∷ rest)) ≡ take ((1 + commit_count later) - 1) (y ∷ whole) in
       let go : (c : ℕ) → c ≡ commit_count later → Kept (list_any is_commit later) =
-          λ c. elim c as (λ c. c ≡ commit_count later → Kept (list_any is_commit later)) [
-            zero ↦ λ e.
-              (let gone : commit_count later - 1 ≡ 0 = omega arith in
-              let first : (1 + commit_count later) - 1 ≡ 0 = omega arith in
-              rw (any_commit_none later (sym e)) (ih ∙ ap (λ k. take k whole) gone ∙ sym (ap (λ k. take k (y ∷ whole)) first)))
-          | suc c ↦ λ e.
-              (let one : suc (commit_count later - 1) ≡ (1 + commit_count later) - 1 = omega arith in
-              rw (any_commit_some later (omega arith), some) (ap (λ others. y ∷ others) ih ∙ ap (λ k. take k (y ∷ whole)) one))
-          ]
+      λ c. elim c as (λ c. c ≡ commit_count later → Kept (list_any is_commit later)) [
+        | zero ↦ λ e.
+            (let gone : commit_count later - 1 ≡ 0 = omega arith in
+            let first : (1 + commit_count later) - 1 ≡ 0 = omega arith in
+            rw (any_commit_none later (sym e)) (ih ∙ ap (λ k. take k whole) gone ∙ sym (ap (λ k. take k (y ∷ whole)) first)))
+        | suc c ↦ λ e.
+            (let one : suc (commit_count later - 1) ≡ (1 + commit_count later) - 1 = omega arith in
+            rw (any_commit_some later (omega arith), some) (ap (λ others. y ∷ others) ih ∙ ap (λ k. take k (y ∷ whole)) one))
+      ]
       in go (commit_count later) refl
 
   -- what the last Commit gives is gone

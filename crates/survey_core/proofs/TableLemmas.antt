@@ -1,9 +1,9 @@
 -- Lists of marks, as they are written.
-use Rattle.std.proofs.Common.{◌≡◌, ◌≢◌, ◌⊎◌, ℕ, zero, suc, ◌+◌, ◌-◌, ◌<◌, ◌≤◌, nat_le, Bool, true, false, cond, ◌||◌, IsTrue, IsFalse, List, [], ◌∷◌, ◌++◌, length, take, drop, map, get_or, slice_set, slice_get, replicate, Some, length-append, refl, ap, sym, subst, ◌∙◌, inl, inr, arith, add-one}
-use Rattle.std.proofs.lemmas.Option.{none-some, same_Some, get_or_from_slice_get, slice_get_within, slice_get_read}
+use Rattle.std.proofs.Common.{◌≡◌, ◌≢◌, ◌⊎◌, ℕ, zero, suc, ◌+◌, ◌-◌, ◌<◌, ◌≤◌, Bool, true, false, cond, ◌||◌, IsTrue, IsFalse, List, [], ◌∷◌, ◌++◌, length, take, drop, map, get_or, slice_set, slice_get, replicate, Some, length-append, refl, ap, sym, subst, ◌∙◌, inl, inr, arith, add-one}
+use Rattle.std.proofs.lemmas.Option.{none-some, same_Some, get_or_from_slice_get, slice_get_within}
 use Rattle.std.proofs.lemmas.Bool.{cases_lt}
 use Rattle.std.proofs.lemmas.List.{length-set, length-replicate}
-use Rattle.std.specs.List.{count_by, sum_by}
+use Rattle.std.specs.List.{count_by}
 use Rattle.survey_core.specs.declared.marks.Ranking.{Ranking}
 use Rattle.survey_core.specs.declared.marks.Ranking.TheVariants.{Unranked}
 use Rattle.survey_core.specs.declared.marks.Ending.{Ending}
@@ -11,7 +11,7 @@ use Rattle.survey_core.specs.declared.marks.Ending.TheVariants.{Open, Closed}
 use Rattle.survey_core.specs.declared.marks.Mark.{Mark}
 use Rattle.survey_core.specs.declared.marks.Question.{Question}
 use Rattle.survey_core.proofs.ListSteps.{slice_get_inside}
-use Rattle.survey_core.specs.Marked.{Table, IsTable, AreSettled, is_ranking, is_settled, is_open, is_ranked_mark, is_open_mark, unmarked}
+use Rattle.survey_core.specs.Marked.{IsTable, AreSettled, is_ranking, is_settled, is_open, is_ranked_mark, is_open_mark, unmarked}
 use Rattle.std.proofs.lemmas.List.Sums.{sum_by-set, sum_by-cons, sum_by-append, count_by-le-length}
 
 -- a list whose first elements are already rewritten
@@ -107,8 +107,8 @@ most_front classes settled n next within all (inl high) =
 pub front_iff : (classes : List Mark) (settled n : ℕ) → AreSettled classes settled → ((mark : Mark) → slice_get classes settled ≡ Some mark → IsFalse (is_settled mark))
     → n ≤ length classes → (n ≤ settled → AreSettled classes n) × (AreSettled classes n → n ≤ settled)
 front_iff classes settled n front next within = (
-    (λ low k mark below at. front k mark (omega arith) at),
-    (λ all. most_front classes settled n next within all (cases_lt settled n)),
+  (λ low k mark below at. front k mark (omega arith) at),
+  (λ all. most_front classes settled n next within all (cases_lt settled n)),
 )
 
 or_yes : (b : Bool) → (b || true) ≡ true
@@ -120,15 +120,15 @@ pub front_kept : (classes : List Mark) (i settled : ℕ) (old new : Mark) → Ar
     → is_settled new ≡ true → AreSettled (slice_set classes i new) settled
 front_kept classes i settled old new front at busy k mark below found =
     elim (set_cases classes i new k mark found) [
-      inl here ↦ subst (λ (m : Mark). IsTrue (is_settled m)) here.1 busy
-    | inr there ↦ front k mark below there.1
+      | inl here ↦ subst (λ (m : Mark). IsTrue (is_settled m)) here.1 busy
+      | inr there ↦ front k mark below there.1
     ]
 
 pub issued_settled : (ranking : Ranking) → (is_ranking ranking || true) ≡ true
 issued_settled ranking = or_yes (is_ranking ranking)
 
 module _ (classes : List Mark) (questions : List Question) (room ranked open_count settled : ℕ)
-  (table : IsTable (record { classes = classes; questions = questions }) room ranked open_count settled) where
+    (table : IsTable (record { classes = classes; questions = questions }) room ranked open_count settled) where
   pub ranked_table : (i after : ℕ) (mark : Mark) (ranking : Ranking) → slice_get classes i ≡ Some mark → mark.ranking ≡ Unranked → is_ranking ranking ≡ true
       → (new : List Mark) → new ≡ slice_set classes i (record { ranking = ranking; issued = mark.issued })
       → AreSettled new after → ((m : Mark) → slice_get new after ≡ Some m → IsFalse (is_settled m)) → after ≤ length new
@@ -138,9 +138,9 @@ module _ (classes : List Mark) (questions : List Question) (room ranked open_cou
       let not_yet : is_ranked_mark mark ≡ false = ap is_ranking before in
       let len : length (slice_set classes i to) ≡ length classes = length-set classes i to in
       let asked : count_by (λ m. m.issued) (slice_set classes i to) + cond mark.issued 1 0 ≡ count_by (λ m. m.issued) classes + cond mark.issued 1 0 =
-          count_set (λ m. m.issued) classes i mark to at in
+      count_set (λ m. m.issued) classes i mark to at in
       let more : count_by is_ranked_mark (slice_set classes i to) + cond (is_ranked_mark mark) 1 0 ≡ count_by is_ranked_mark classes + cond (is_ranking ranking) 1 0 =
-          count_set is_ranked_mark classes i mark to at in
+      count_set is_ranked_mark classes i mark to at in
       record {
         few = omega (arith, table.few);
         room_for_all = omega (arith, table.room_for_all);
@@ -162,11 +162,11 @@ module _ (classes : List Mark) (questions : List Question) (room ranked open_cou
       let question : Question = record { place = place; ending = Open } in
       let len : length (slice_set classes i to) ≡ length classes = length-set classes i to in
       let asked : count_by (λ m. m.issued) (slice_set classes i to) + cond mark.issued 1 0 ≡ count_by (λ m. m.issued) classes + 1 =
-          count_set (λ m. m.issued) classes i mark to at in
+      count_set (λ m. m.issued) classes i mark to at in
       let same : count_by is_ranked_mark (slice_set classes i to) + cond (is_ranked_mark mark) 1 0 ≡ count_by is_ranked_mark classes + cond (is_ranked_mark mark) 1 0 =
-          count_set is_ranked_mark classes i mark to at in
+      count_set is_ranked_mark classes i mark to at in
       let opened : count_by is_open_mark (questions ++ question ∷ []) ≡ count_by is_open_mark questions + count_by is_open_mark (question ∷ []) =
-          sum_by-append (λ q. cond (is_open_mark q) 1 0) questions (question ∷ []) in
+      sum_by-append (λ q. cond (is_open_mark q) 1 0) questions (question ∷ []) in
       record {
         few = omega (arith, table.few);
         room_for_all = omega (arith, table.room_for_all);
@@ -183,7 +183,7 @@ module _ (classes : List Mark) (questions : List Question) (room ranked open_cou
   ended_table i question ending at before ended =
       let to : Question = record { place = question.place; ending = ending } in
       let fewer : count_by is_open_mark (slice_set questions i to) + cond (is_open_mark question) 1 0 ≡ count_by is_open_mark questions + cond (is_open ending) 1 0 =
-          count_set is_open_mark questions i question to at in
+      count_set is_open_mark questions i question to at in
       record {
         few = table.few;
         room_for_all = table.room_for_all;

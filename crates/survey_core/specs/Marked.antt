@@ -13,7 +13,7 @@ use Rattle.survey_core.specs.declared.marks.Ending.{Ending}
 use Rattle.survey_core.specs.declared.marks.Ending.TheVariants.{Open, Committed, Closed}
 use Rattle.survey_core.specs.declared.marks.Mark.{Mark}
 use Rattle.survey_core.specs.declared.marks.Question.{Question}
-use Rattle.survey_core.specs.Kinds.{is_commit, commits, closes}
+use Rattle.survey_core.specs.Kinds.{is_commit}
 use Rattle.survey_core.specs.Histories.{standing, issued, is_issued, committed, commits_class, withdrawals}
 use Rattle.survey_core.specs.Legal.{IsLegal}
 
@@ -203,5 +203,5 @@ pub record IsKept (listed : Listed) (history : List Event) (answers : AnswersWit
   pub withdrawals_made : withdrawn ≡ withdrawals history
   pub unspent : 3 * length listed.classes + 2 * length listed.classes * withdrawn + withdrawn ≤ 131072
   pub short : length history + count_by is_open_mark table.questions + length answers.answers
-    ≤ 2 * length table.questions + count_by is_ranked_mark table.classes + withdrawn * (2 * length listed.classes + 1)
+      ≤ 2 * length table.questions + count_by is_ranked_mark table.classes + withdrawn * (2 * length listed.classes + 1)
   pub room_for_events : 131072 ≤ room

@@ -1,5 +1,5 @@
 -- The first part that an event lacks, in the order of the parts.
-use Rattle.std.specs.Prelude.{◌≡◌, ℕ, ◌<◌, ◌≤◌, IsTrue, IsFalse, List, length, Some, IsSomeAnd, ℤ}
+use Rattle.std.specs.Prelude.{ℕ, ◌<◌, ◌≤◌, IsTrue, IsFalse, List, length, Some, IsSomeAnd, ℤ}
 use Rattle.criteria_model.specs.declared.pairs.Side.{Side}
 use Rattle.farkas_check.specs.declared.combination.Combination.{Combination}
 use Rattle.farkas_check.specs.Flaws.{IsFirstFlaw}

@@ -28,7 +28,13 @@ pub enum Event {
         point: Vector,
     },
     /// A question is closed, since its class was eliminated.
-    Close { desk: u8, question: u32 },
+    Close {
+        desk: u8,
+        question: u32,
+    },
     /// The last answer is taken back.
-    Withdraw { desk: u8, answer: u32 },
+    Withdraw {
+        desk: u8,
+        answer: u32,
+    },
 }

@@ -268,14 +268,20 @@ fn count_ranked(classes: &[Mark]) -> u32
     requires { length classes.now ≤ 16384 }
     ensures { result ≡ count_by is_ranked_mark classes.now }
 {
-    classes.iter().filter(|mark| mark.ranking.is_ranked()).count() as u32
+    classes
+        .iter()
+        .filter(|mark| mark.ranking.is_ranked())
+        .count() as u32
 }
 
 fn count_open(questions: &[Question]) -> u32
     requires { length questions.now ≤ 16384 }
     ensures { result ≡ count_by is_open_mark questions.now }
 {
-    questions.iter().filter(|question| question.ending.is_open()).count() as u32
+    questions
+        .iter()
+        .filter(|question| question.ending.is_open())
+        .count() as u32
 }
 
 fn unrank(classes: &mut [Mark], answer: u32)

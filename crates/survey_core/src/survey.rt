@@ -92,7 +92,10 @@ impl Core {
                 ..
             } => self.may_eliminate(*place, *verdict, combination),
             Event::Issue {
-                place, plus, minus, ..
+                place,
+                plus,
+                minus,
+                ..
             } => self.may_issue(*place, plus, minus),
             Event::Commit {
                 question,
@@ -261,7 +264,7 @@ impl Core {
         requires point { IsValueVector self.now.listed.criteria.levels point.now }
         ensures { IsTrue result ↔ IsSomeAnd (class_at self.now.listed.classes place)
             (λ pair. MeetsAll self.now.listed.criteria.levels
-                (committed self.now.listed.classes self.now.history ++ record { pair = pair; side = side } ∷ []) point.now) }
+            (committed self.now.listed.classes self.now.history ++ record { pair = pair; side = side } ∷ []) point.now) }
     {
         let model = self.classes.model();
         let pair = self.classes.class(place);
@@ -389,3 +392,6 @@ fn ranks(model: &Model, vector: &Vector, pair: &Pair, side: Side) -> bool
         Side::Equal => left == right,
     }
 }
+
+#[cfg(test)]
+mod tests;

@@ -1,4 +1,3 @@
-use Rattle.survey_core.proofs.KeptLemmas as read
 use Rattle.survey_core.proofs.LawLemmas.{last_point_meets_lem}
 use Rattle.survey_core.proofs.laws.last_point_meets.Goals as goal
 

@@ -1,4 +1,4 @@
-use Rattle.std.proofs.Common.{◌≡◌, ◌∙◌, ap, get_or}
+use Rattle.std.proofs.Common.{◌∙◌, ap, get_or}
 use Rattle.survey_core.specs.declared.marks.Question.{Question}
 use Rattle.survey_core.specs.declared.marks.Ending.{Ending}
 use Rattle.survey_core.specs.declared.marks.Ending.TheVariants.{Open}

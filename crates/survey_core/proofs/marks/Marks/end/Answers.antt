@@ -14,7 +14,7 @@ overflow_sub-self c =
     let same : questions ≡ c.args.self.now.questions = ap (λ (t : Table). t.questions) c.self.view_is in
     let inside : c.args.number - 1 < length questions = omega (arith, ap (λ (l : List Question). length l) same) in
     let at : slice_get questions (c.args.number - 1) ≡ Some question =
-        slice_get_read questions (length questions) (c.args.number - 1) question refl inside c.index_mut-question.ensures.value in
+    slice_get_read questions (length questions) (c.args.number - 1) question refl inside c.index_mut-question.ensures.value in
     some_open c.self.inside.classes.items questions (vec_capacity c.self.inside.questions) c.self.inside.ranked c.self.inside.open c.self.inside.settled
     c.self.invariant (c.args.number - 1) question at
     (c.requires.before question (ap (λ (l : List Question). slice_get l (c.args.number - 1)) (sym same) ∙ at))
@@ -26,7 +26,7 @@ invariant_of-self c =
     let same : questions ≡ c.args.self.now.questions = ap (λ (t : Table). t.questions) c.self.view_is in
     let inside : c.args.number - 1 < length questions = omega (arith, ap (λ (l : List Question). length l) same) in
     let at : slice_get questions (c.args.number - 1) ≡ Some question =
-        slice_get_read questions (length questions) (c.args.number - 1) question refl inside c.index_mut-question.ensures.value in
+    slice_get_read questions (length questions) (c.args.number - 1) question refl inside c.index_mut-question.ensures.value in
     ended_table c.self.inside.classes.items questions (vec_capacity c.self.inside.questions) c.self.inside.ranked c.self.inside.open c.self.inside.settled
     c.self.invariant (c.args.number - 1) question c.args.ending at
     (c.requires.before question (ap (λ (l : List Question). slice_get l (c.args.number - 1)) (sym same) ∙ at)) c.requires.after

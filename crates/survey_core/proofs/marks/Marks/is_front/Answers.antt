@@ -17,6 +17,6 @@ returns c =
     let n : ℕ = c.args.place - 1 in
     let same : classes ≡ c.args.self.now.classes = ap (λ (t : Table). t.classes) c.self.view_is in
     let both : (n ≤ c.self.inside.settled → AreSettled classes n) × (AreSettled classes n → n ≤ c.self.inside.settled) =
-        front_iff classes c.self.inside.settled n c.self.invariant.front c.self.invariant.next (omega (arith, ap (λ (l : List Mark). length l) same)) in
+    front_iff classes c.self.inside.settled n c.self.invariant.front c.self.invariant.next (omega (arith, ap (λ (l : List Mark). length l) same)) in
     subst (λ (l : List Mark). IsTrue (nat_le n c.self.inside.settled) ↔ AreSettled l n) same
     ((λ yes_. both.0 (to_le n c.self.inside.settled yes_)), (λ all. from_le n c.self.inside.settled (both.1 all)))

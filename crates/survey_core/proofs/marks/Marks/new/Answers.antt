@@ -1,7 +1,5 @@
-use Rattle.std.proofs.Common.{◌≡◌, List, replicate, subst, sym, arith}
-use Rattle.survey_core.specs.declared.marks.Mark.{Mark}
-use Rattle.survey_core.specs.declared.marks.Question.{Question}
-use Rattle.survey_core.specs.Marked.{unmarked, IsTable}
+use Rattle.std.proofs.Common.{◌≡◌, replicate}
+use Rattle.survey_core.specs.Marked.{unmarked}
 use Rattle.survey_core.proofs.TableLemmas.{new_table}
 use Rattle.survey_core.proofs.marks.Marks.new.Goals as goal
 

@@ -1,9 +1,6 @@
-use Rattle.std.proofs.Common.{◌≡◌, ◌⊎◌, ◌↔◌, ℕ, ◌+◌, ◌-◌, ◌<◌, ◌≤◌, Bool, true, false, IsTrue, List, ◌∷◌, [], ◌++◌, length, map, All, Some, slice_get, IsSomeAnd, Option, refl, ap, sym, subst, ◌∙◌, inl, inr, arith}
+use Rattle.std.proofs.Common.{map, All, IsSomeAnd, sym, subst}
 use Rattle.std.specs.Vec.{vec_capacity}
-use Rattle.survey_core.specs.declared.events.Event.{Event}
 use Rattle.survey_core.specs.Recorded.{Recorded}
-use Rattle.criteria_model.specs.declared.pairs.Answer.{Answer}
-use Rattle.criteria_model.specs.declared.pairs.Pair.{Pair}
 use Rattle.criteria_model.specs.Criteria.{Criteria}
 use Rattle.criteria_model.specs.Pairs.{IsFit}
 use Rattle.farkas_check.specs.Flaws.{IsFirstFlaw}
@@ -18,6 +15,6 @@ flaw-requires-clause-answers_fit c =
 pub returns : goal.returns
 returns c =
     subst (λ (r : Recorded). IsSomeAnd (class_at r.listed.classes c.args.place)
-      (λ pair. IsFirstFlaw r.listed.criteria.levels (committed r.listed.classes r.history) c.args.combination.now pair c.args.verdict c.flaw.result)) c.self.view_is
+    (λ pair. IsFirstFlaw r.listed.criteria.levels (committed r.listed.classes r.history) c.args.combination.now pair c.args.verdict c.flaw.result)) c.self.view_is
     (flaw_at c.self.inside.classes (map (λ event. event.value) c.self.inside.events.items) c.self.inside.answers c.self.inside.marks c.self.inside.withdrawals (vec_capacity c.self.inside.events) c.self.invariant c.model-model.result c.args.place c.class-pair.result c.args.combination.now c.args.verdict c.flaw.result
     c.model-model.ensures.value c.class-pair.ensures.value c.flaw.ensures)

@@ -1,6 +1,5 @@
-use Rattle.std.proofs.Common.{◌≡◌, ◌⊎◌, ◌↔◌, ℕ, ◌+◌, ◌-◌, ◌<◌, ◌≤◌, Bool, true, false, IsTrue, List, ◌∷◌, [], ◌++◌, length, map, All, Some, slice_get, IsSomeAnd, Option, refl, ap, sym, subst, ◌∙◌, inl, inr, arith}
+use Rattle.std.proofs.Common.{◌↔◌, IsTrue, map, All, sym, subst}
 use Rattle.std.specs.Vec.{vec_capacity}
-use Rattle.survey_core.specs.declared.events.Event.{Event}
 use Rattle.survey_core.specs.Recorded.{Recorded}
 use Rattle.criteria_model.specs.Criteria.{Criteria}
 use Rattle.criteria_model.specs.Pairs.{IsFit}

@@ -1,4 +1,4 @@
-use Rattle.std.proofs.Common.{◌≡◌, ℕ, ◌+◌, ◌≤◌, List, [], length, map, replicate, refl, sym, ap, subst, ◌∙◌, arith}
+use Rattle.std.proofs.Common.{◌≡◌, ℕ, List, [], length, map, replicate, sym, ap, subst, ◌∙◌, arith}
 use Rattle.std.specs.Vec.{vec_capacity}
 use Rattle.std.specs.declared.snapshot.Snapshot.{Snapshot}
 use Rattle.pair_enumeration.specs.Listed.{Listed, IsListed}
@@ -15,7 +15,7 @@ invariant_of-result c =
     let listed : Listed = c.in_ok-classes.classes in
     let room : ℕ = vec_capacity c.in_ok-events.events in
     let marks : c.in_ok-marks.marks ≡ record { classes = replicate (length listed.classes) unmarked; questions = [] } =
-        c.in_ok-marks.ensures ∙ ap (λ (n : ℕ). first n) c.count-count.ensures.value in
+    c.in_ok-marks.ensures ∙ ap (λ (n : ℕ). first n) c.count-count.ensures.value in
     let model : IsListed listed = c.in_ok-classes.ensures.1 in
     subst (λ (l : List (Snapshot Event)). IsKept listed (map (λ event. event.value) l) c.in_ok-answers.answers c.in_ok-marks.marks 0 room)
     (sym c.in_ok-events.ensures.items)
