@@ -1,0 +1,130 @@
+-- The answers of a legal history: the last point meets them, and they rank each class that an event ranks.
+use Rattle.std.proofs.Common.{◌≡◌, ◌⊎◌, ℕ, ◌+◌, ◌-◌, ◌==◌, Bool, true, false, ◌||◌, List, [], ◌∷◌, length, take, get_or, replicate, Option, Some, ℤ, pos, ◌≤ℤ◌, refl, ap, sym, subst, ◌∙◌, inl, inr, arith}
+use Rattle.std.proofs.lemmas.List.{length-replicate}
+use Rattle.std.specs.Option.{option_map_or}
+use Rattle.std.specs.List.{fold, filter_map, list_any}
+use Rattle.std.proofs.lemmas.Bool.{eqb-true}
+use Rattle.std.proofs.lemmas.Option.{same_Some, get_or_from_slice_get, slice_get_within}
+use Rattle.std.proofs.lemmas.List.Elements.{All-take, All-replicate}
+use Rattle.std.proofs.lemmas.Int.{ints}
+use Rattle.criteria_model.specs.declared.pairs.Pair.{Pair}
+use Rattle.criteria_model.specs.declared.pairs.Answer.{Answer}
+use Rattle.criteria_model.specs.declared.pairs.Side.{Side}
+use Rattle.criteria_model.specs.Worth.{increments}
+use Rattle.criteria_model.specs.Answers.{Ranks, Meets, MeetsAll, IsRanked}
+use Rattle.pair_enumeration.specs.Listed.{Listed}
+use Rattle.survey_core.specs.declared.events.Event.{Event}
+use Rattle.survey_core.specs.declared.events.Event.TheVariants.{Eliminate, Issue, Commit, Close, Withdraw}
+use Rattle.survey_core.specs.Kinds.{eliminates}
+use Rattle.survey_core.specs.Histories.{standing, issued, place_of, class_at, committed, commits_class, is_eliminated, is_committed}
+use Rattle.survey_core.specs.Laws.{point_of, LastPointMeets, RankedByAnswers}
+use Rattle.survey_core.specs.Marked.{greatest_cited, numbered}
+use Rattle.survey_core.proofs.ListSteps.{Each, take_whole}
+use Rattle.survey_core.proofs.StandingLemmas.{commit_count}
+use Rattle.survey_core.proofs.SoundLemmas.{IsSoundAt, IsSound, sound_history, answers_count}
+
+ones_meet : (levels : List ℕ) → MeetsAll levels [] (replicate (increments levels) (pos 1))
+ones_meet levels = record {
+  vector = record {
+    len = length-replicate (increments levels) (pos 1);
+    positive = All-replicate (λ x. pos 1 ≤ℤ x) (increments levels) (pos 1) (omega (arith, ints));
+  };
+  each = λ k d within. absurd (omega arith);
+}
+
+false_true : false ≡ true → ⊥
+false_true h = cc
+
+or_cases : (a b : Bool) → (a || b) ≡ true → (a ≡ true) ⊎ (b ≡ true)
+or_cases true b h = inl refl
+or_cases false b h = inr h
+
+module _ (listed : Listed) (asked : List ℕ) (answers : List Answer) where
+  abbrev levels : List ℕ
+  levels = listed.criteria.levels
+
+  abbrev AreSound : ℕ → List Event → Type 0
+  AreSound before events = Each (λ e. IsSoundAt listed asked answers e.level e.event) (numbered before events)
+
+  last_meets : (before : ℕ) (events : List Event) (earlier : List ℤ) → AreSound before events → before + commit_count events ≡ length answers
+      → (commit_count events ≡ 0 → MeetsAll levels answers earlier) → MeetsAll levels answers (fold (λ earlier point. point) earlier (filter_map point_of events))
+  last_meets before [] earlier each count start = start refl
+  last_meets before (Eliminate worker place verdict combination ∷ later) earlier each count start =
+      last_meets (before + 0) later earlier each.1 (omega arith) (λ none. start (omega arith))
+  last_meets before (Issue desk place plus minus ∷ later) earlier each count start =
+      last_meets (before + 0) later earlier each.1 (omega arith) (λ none. start (omega arith))
+  last_meets before (Commit desk question side plus minus point ∷ later) earlier each count start =
+      last_meets (before + 1) later point each.1 (omega arith)
+      (λ none. subst (λ (l : List Answer). MeetsAll levels l point) (take_whole (before + 1) answers (omega arith)) each.0.met)
+  last_meets before (Close desk question ∷ later) earlier each count start =
+      last_meets (before + 0) later earlier each.1 (omega arith) (λ none. start (omega arith))
+  last_meets before (Withdraw desk answer ∷ later) earlier each count start =
+      last_meets (before + 0) later earlier each.1 (omega arith) (λ none. start (omega arith))
+
+  ranked_longer : (n : ℕ) (pair : Pair) (side : Side) → IsRanked levels (take n answers) pair side → IsRanked levels answers pair side
+  ranked_longer n pair side ranked = λ values meets. ranked values (record { vector = meets.vector; each = All-take (Meets levels values) n answers meets.each })
+
+  abbrev Ranked : Pair → Type 0
+  Ranked pair = (side : Side) × IsRanked levels answers pair side
+
+  eliminated_ranked : (place : ℕ) (pair : Pair) → class_at listed.classes place ≡ Some pair → (before : ℕ) (events : List Event) → AreSound before events
+      → list_any (eliminates place) events ≡ true → Ranked pair
+  eliminated_ranked place pair class before [] each some = absurd (false_true some)
+  eliminated_ranked place pair class before (Eliminate worker other verdict combination ∷ later) each some =
+      elim (or_cases (other == place) (list_any (eliminates place) later) some) [
+        | inl here ↦
+            (let same : each.0.pair ≡ pair =
+            same_Some each.0.pair pair (sym each.0.class ∙ ap (λ k. class_at listed.classes k) (eqb-true other place here) ∙ class) in
+            (verdict, subst (λ (q : Pair). IsRanked levels answers q verdict) same (ranked_longer (greatest_cited combination.answers) each.0.pair verdict each.0.ranked)))
+        | inr there ↦ eliminated_ranked place pair class (before + 0) later each.1 there
+      ]
+  eliminated_ranked place pair class before (Issue desk other plus minus ∷ later) each some = eliminated_ranked place pair class (before + 0) later each.1 some
+  eliminated_ranked place pair class before (Commit desk question side plus minus point ∷ later) each some =
+      eliminated_ranked place pair class (before + 1) later each.1 some
+  eliminated_ranked place pair class before (Close desk question ∷ later) each some = eliminated_ranked place pair class (before + 0) later each.1 some
+  eliminated_ranked place pair class before (Withdraw desk answer ∷ later) each some = eliminated_ranked place pair class (before + 0) later each.1 some
+
+  committed_ranked : (place : ℕ) (pair : Pair) → class_at listed.classes place ≡ Some pair → (before : ℕ) (events : List Event) → AreSound before events
+      → list_any (commits_class asked place) events ≡ true → Ranked pair
+  committed_ranked place pair class before [] each some = absurd (false_true some)
+  committed_ranked place pair class before (Eliminate worker other verdict combination ∷ later) each some =
+      committed_ranked place pair class (before + 0) later each.1 some
+  committed_ranked place pair class before (Issue desk other plus minus ∷ later) each some = committed_ranked place pair class (before + 0) later each.1 some
+  committed_ranked place pair class before (Commit desk question side plus minus point ∷ later) each some =
+      elim (or_cases (option_map_or (λ other. other == place) (place_of asked question) false) (list_any (commits_class asked place) later) some) [
+        | inl here ↦
+            (let test : (each.0.place == place) ≡ true =
+            subst (λ (o : Option ℕ). option_map_or (λ other. other == place) o false ≡ true) each.0.asks here in
+            let same : each.0.pair ≡ pair =
+            same_Some each.0.pair pair (sym each.0.class ∙ ap (λ k. class_at listed.classes k) (eqb-true each.0.place place test) ∙ class) in
+            let given : Answer = record { pair = each.0.pair; side = side } in
+            let at : get_or answers (before + 1 - 1) given ≡ given = get_or_from_slice_get answers (before + 1 - 1) given given each.0.answer in (
+              side,
+              λ values meets.
+                  subst (λ (q : Pair). Ranks levels values q side) same
+                  (subst (λ (a : Answer). Meets levels values a) at
+                  (meets.each (before + 1 - 1) given (slice_get_within answers (before + 1 - 1) given each.0.answer))),
+            ))
+        | inr there ↦ committed_ranked place pair class (before + 1) later each.1 there
+      ]
+  committed_ranked place pair class before (Close desk question ∷ later) each some = committed_ranked place pair class (before + 0) later each.1 some
+  committed_ranked place pair class before (Withdraw desk answer ∷ later) each some = committed_ranked place pair class (before + 0) later each.1 some
+
+pub last_point_meets_lem : LastPointMeets
+last_point_meets_lem listed history model legal =
+    let sound : IsSound listed history = sound_history listed history legal in
+    let answers : List Answer = committed listed.classes history in
+    let count : 0 + commit_count (standing history) ≡ length answers = omega (arith, answers_count listed history sound) in
+    last_meets listed (issued history) answers 0 (standing history) (replicate (increments listed.criteria.levels) (pos 1)) sound.each count
+    (λ none.
+    let empty : [] ≡ answers = take_whole 0 answers (omega arith) in
+    subst (λ (l : List Answer). MeetsAll listed.criteria.levels l (replicate (increments listed.criteria.levels) (pos 1))) empty (ones_meet listed.criteria.levels))
+
+pub ranked_by_answers_lem : RankedByAnswers
+ranked_by_answers_lem listed history place pair model legal ranked from_one class =
+    let sound : IsSound listed history = sound_history listed history legal in
+    let answers : List Answer = committed listed.classes history in
+    elim (or_cases (is_eliminated history place) (is_committed history place) ranked) [
+      | inl eliminated ↦ eliminated_ranked listed (issued history) answers place pair class 0 (standing history) sound.each eliminated
+      | inr given ↦ committed_ranked listed (issued history) answers place pair class 0 (standing history) sound.each given
+    ]
