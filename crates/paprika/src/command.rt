@@ -41,6 +41,7 @@ pub fn plain_command<S: Source, K: Sink>(
 
     // Status 0 says that each value vector that meets the answers above an eliminated pair ranks it so.
     ensures proved { IsCheck words.now → result ≡ 0 → IsProved (S.left source.old) }
+    ensures unread { (¬ IsCheck words.now) → source.new ≡ source.old }
     ensures usage { (¬ IsCheck words.now) → ShowsUsage
         (record { written = K.written sink.old; faults = K.faults sink.old })
         (record { written = K.written sink.new; faults = K.faults sink.new }) result }
@@ -55,6 +56,7 @@ fn run<S: Source, K: Sink>(alloc: Global, words: &[String], source: &mut S, sink
         (record { left = S.left source.new; faults = S.faults source.new })
         (record { written = K.written sink.old; faults = K.faults sink.old })
         (record { written = K.written sink.new; faults = K.faults sink.new }) result }
+    ensures unread { (¬ IsCheck words.now) → source.new ≡ source.old }
     ensures usage { (¬ IsCheck words.now) → ShowsUsage
         (record { written = K.written sink.old; faults = K.faults sink.old })
         (record { written = K.written sink.new; faults = K.faults sink.new }) result }
