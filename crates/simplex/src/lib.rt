@@ -14,5 +14,6 @@ mod tests;
 
 pub use divisor::common_divisor;
 pub use found::{Clash, Found};
+pub use point::reduced;
 pub use row_weights::{RowWeight, RowWeights};
 pub use solver::solve;

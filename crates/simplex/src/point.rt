@@ -40,7 +40,7 @@ fn scaled_point(work: &Dictionary) -> Vector
 }
 
 /// The values over their greatest common divisor.
-fn reduced(values: &[i128]) -> Vector
+pub fn reduced(values: &[i128]) -> Vector
     requires vector { IsVector values.now }
     requires positive { All (λ x. pos 1 ≤ℤ x) values.now }
     ensures reduced { HasNoDivisor result }
