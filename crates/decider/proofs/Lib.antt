@@ -1,2 +1,4 @@
 pub mod RowTests
 pub mod Standings
+pub mod AnswerRows
+pub mod Between
