@@ -35,11 +35,11 @@ from_each_row levels loaded values vector each = record { len = vector.len; posi
 pub rows_vector : (levels : List ℕ) (loaded : List LoadedRow) (values : List ℤ) → MeetsRows (increments levels) loaded values → IsValueVector levels values
 rows_vector levels loaded values meets = record { len = meets.len; positive = meets.positive }
 
-All-first : {X : Type 0} (P : X → Type 0) (xs ys : List X) → All P (xs ++ ys) → All P xs
+pub All-first : {X : Type 0} (P : X → Type 0) (xs ys : List X) → All P (xs ++ ys) → All P xs
 All-first P [] ys all = All-nil P
 All-first P (x ∷ xs) ys all = All-cons P x xs (All-head P x (xs ++ ys) all) (All-first P xs ys (All-tail P x (xs ++ ys) all))
 
-All-later : {X : Type 0} (P : X → Type 0) (xs ys : List X) → All P (xs ++ ys) → All P ys
+pub All-later : {X : Type 0} (P : X → Type 0) (xs ys : List X) → All P (xs ++ ys) → All P ys
 All-later P [] ys all = all
 All-later P (x ∷ xs) ys all = All-later P xs ys (All-tail P x (xs ++ ys) all)
 

@@ -235,7 +235,7 @@ pub record BroughtSoFar (levels : List ℕ) (answers : List Answer) (start now :
   pub dictionary : IsDictionary now
 
 pub brought_more : (levels : List ℕ) (answers : List Answer) (start now new : Tableau) (held at : ℕ) (answer : Answer) → held ≤ at → at < length answers → get_or answers at answer ≡ answer
-    → new.loaded ≡ now.loaded ++ rows_of levels answer.pair answer.side → new.columns ≡ now.columns → KeepsRoom now new → new.loads ≡ now.loads → new.added ≤ now.added + 2 → IsDictionary new
+    → new.loaded ≡ now.loaded ++ rows_of levels answer.pair answer.side → new.columns ≡ now.columns → KeepsRoom now new → new.loads ≡ now.loads → new.added ≤ now.added + length (rows_of levels answer.pair answer.side) → IsDictionary new
     → BroughtSoFar levels answers start now held at → BroughtSoFar levels answers start new held (at + 1)
 brought_more levels answers start now new held at answer low lt e loaded columns room loads added is so = record {
   stands = record {
@@ -244,7 +244,7 @@ brought_more levels answers start now new held at answer low lt e loaded columns
   };
   room = record { columns = room.columns ∙ so.room.columns; rows = room.rows ∙ so.room.rows };
   loads = loads ∙ so.loads;
-  added = let a = so.added in omega arith;
+  added = let a = so.added in let most = rows_most levels answer.pair answer.side in omega arith;
   dictionary = is;
 }
 

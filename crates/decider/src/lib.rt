@@ -2,7 +2,10 @@
 //! beside them.
 #![tactic(auto)]
 
+mod cite_list;
+mod combination;
 mod decision;
+mod decisions;
 mod point;
 mod rows;
 mod standing;
@@ -10,7 +13,6 @@ mod tools;
 mod trial;
 
 pub use decision::Decision;
+pub use decisions::decide;
 pub use point::point_with;
-pub use standing::bring_up;
 pub use tools::{Snapshot, Tools};
-pub use trial::try_side;

@@ -109,7 +109,7 @@ multiple_is_vector values result g is pg e =
           omega arith);
     }
 
-positive_factor : (g q v : ℤ) → pos 1 ≤ℤ g → pos 1 ≤ℤ v → v ≡ g *ℤ q → pos 1 ≤ℤ q
+pub positive_factor : (g q v : ℤ) → pos 1 ≤ℤ g → pos 1 ≤ℤ v → v ≡ g *ℤ q → pos 1 ≤ℤ q
 positive_factor g (pos (suc q)) v pg pv e = omega (arith, ints)
 positive_factor g (pos zero) v pg pv e = absurd (impossible (pos zero *ℤ g) v (mul_nonpos (pos zero) g (omega (arith, ints)) (weak g pg)) pv (e ∙ *ℤ_comm g (pos zero)))
   where

@@ -108,7 +108,7 @@ sum-skip f n (suc m) le h = from (λ (k : n ≤ m). sum-skip f n m k (λ i l j. 
         let ne : n ≢ suc m = eqb-false n (suc m) e in
         drop_zero (sum_below f m) (f m) (h m (omega arith) (omega arith)) ∙ rest (omega arith)
 
-weighted-append : (of : ℕ → ℤ) (xs : List RowWeight) (x : RowWeight) → weighted of (xs ++ x ∷ []) ≡ weighted of xs +ℤ x.weight *ℤ of x.row
+pub weighted-append : (of : ℕ → ℤ) (xs : List RowWeight) (x : RowWeight) → weighted of (xs ++ x ∷ []) ≡ weighted of xs +ℤ x.weight *ℤ of x.row
 weighted-append of [] x = flip (x.weight *ℤ of x.row)
   where
     flip : (a : ℤ) → a +ℤ pos 0 ≡ pos 0 +ℤ a

@@ -20,12 +20,12 @@ factor_meets levels answers pair side vector given kept same (factor, low, multi
     (meets_scaled levels answers factor kept low positive (subst (MeetsAll levels answers) e meets))
     (ranks_scaled levels factor kept pair side low (subst (λ (v : List ℤ). Ranks levels v pair side) e ranks))
 
-pub equal_point-requires-clause-room : goal.equal_point-requires-clause-room
-equal_point-requires-clause-room c =
+pub point_for-requires-clause-room : goal.point_for-requires-clause-room
+point_for-requires-clause-room c =
     omega (arith, ap length c.bring_up.ensures.up.stands.loaded, rows_len-whole c.args.model.now.levels c.args.answers.now.answers, c.bring_up.ensures.up.room.rows, c.requires.room.rows)
 
-pub equal_point-requires-clause-some : goal.equal_point-requires-clause-some
-equal_point-requires-clause-some c = (
+pub point_for-requires-clause-some : goal.point_for-requires-clause-some
+point_for-requires-clause-some c = (
   between c.args.model.now.levels c.args.pair.now c.args.plus.now c.args.minus.now,
   standing_meets c.args.model.now.levels c.args.answers.now.answers c.bring_up.new.work (between c.args.model.now.levels c.args.pair.now c.args.plus.now c.args.minus.now) c.args.pair.now Equal c.bring_up.ensures.up.stands
       (between_meets c.args.model.now.levels c.args.answers.now.answers c.args.pair.now c.args.plus.now c.args.minus.now c.requires.opens)
@@ -44,6 +44,6 @@ returns-in-Right-clause-meets c =
 
 pub returns-in-Equal-clause-meets : goal.returns-in-Equal-clause-meets
 returns-in-Equal-clause-meets c =
-    let both = meets_standing c.args.model.now.levels c.args.answers.now.answers c.bring_up.new.work c.equal_point.result c.args.pair.now Equal c.bring_up.ensures.up.stands c.equal_point.ensures.meets in
-    meets_more c.args.model.now.levels c.args.answers.now.answers c.equal_point.result (record { pair = c.args.pair.now; side = c.args.side }) both.0
-    (subst (λ (s : Side). Ranks c.args.model.now.levels c.equal_point.result c.args.pair.now s) (sym c.in-Equal.is) both.1)
+    let both = meets_standing c.args.model.now.levels c.args.answers.now.answers c.bring_up.new.work c.point_for.result c.args.pair.now Equal c.bring_up.ensures.up.stands c.point_for.ensures.meets in
+    meets_more c.args.model.now.levels c.args.answers.now.answers c.point_for.result (record { pair = c.args.pair.now; side = c.args.side }) both.0
+    (subst (λ (s : Side). Ranks c.args.model.now.levels c.point_for.result c.args.pair.now s) (sym c.in-Equal.is) both.1)
