@@ -25,7 +25,7 @@ pub fn point_with(
     side: Side,
     work: &mut Dictionary,
 ) -> Vector
-    requires fit { All (λ answer. IsFit model.now.levels answer.pair) answers.now.answers }
+    requires answers_fit { All (λ answer. IsFit model.now.levels answer.pair) answers.now.answers }
     requires pair_fits { IsFit model.now.levels pair.now }
     requires opens { Opens model.now.levels answers.now.answers pair.now plus.now minus.now }
     requires room { HasRoom model.now.levels answers.now.answers work.old }
