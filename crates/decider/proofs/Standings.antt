@@ -12,7 +12,7 @@ use Rattle.fraction_free.specs.declared.loaded.LoadedRow.{LoadedRow}
 use Rattle.fraction_free.specs.Tableau.{Tableau, IsDictionary, loaded_at, no_row}
 use Rattle.fraction_free.specs.Changes.{empty_tableau, next_count}
 use Rattle.criteria_model.specs.Worth.{increments}
-use Rattle.decider.specs.Standing.{rows_of, rows_of_answers, BeginsAt, StandsFor, HasRoom, KeepsRoom, BringsUp}
+use Rattle.decider.specs.Standing.{rows_of, rows_of_answers, BeginsAt, StandsFor, HasRoom, KeepsRoom, RisesAtMost, BringsUp}
 
 pub begins_append : (l xs ys : List LoadedRow) (from : ℕ) → BeginsAt l xs from → BeginsAt l ys (from + length xs) → BeginsAt l (xs ++ ys) from
 begins_append l [] ys from h k = let e : from + 0 ≡ from = omega arith in subst (BeginsAt l ys) e k
@@ -231,11 +231,11 @@ pub record BroughtSoFar (levels : List ℕ) (answers : List Answer) (start now :
   pub stands : StandsFor levels (take at answers) now
   pub room : KeepsRoom start now
   pub loads : now.loads ≡ start.loads
-  pub added : now.added ≤ start.added + 2 * (at - held)
+  pub added : RisesAtMost start.added now.added (2 * (at - held))
   pub dictionary : IsDictionary now
 
 pub brought_more : (levels : List ℕ) (answers : List Answer) (start now new : Tableau) (held at : ℕ) (answer : Answer) → held ≤ at → at < length answers → get_or answers at answer ≡ answer
-    → new.loaded ≡ now.loaded ++ rows_of levels answer.pair answer.side → new.columns ≡ now.columns → KeepsRoom now new → new.loads ≡ now.loads → new.added ≤ now.added + length (rows_of levels answer.pair answer.side) → IsDictionary new
+    → new.loaded ≡ now.loaded ++ rows_of levels answer.pair answer.side → new.columns ≡ now.columns → KeepsRoom now new → new.loads ≡ now.loads → RisesAtMost now.added new.added (length (rows_of levels answer.pair answer.side)) → IsDictionary new
     → BroughtSoFar levels answers start now held at → BroughtSoFar levels answers start new held (at + 1)
 brought_more levels answers start now new held at answer low lt e loaded columns room loads added is so = record {
   stands = record {
@@ -244,7 +244,10 @@ brought_more levels answers start now new held at answer low lt e loaded columns
   };
   room = record { columns = room.columns ∙ so.room.columns; rows = room.rows ∙ so.room.rows };
   loads = loads ∙ so.loads;
-  added = let a = so.added in let most = rows_most levels answer.pair answer.side in omega arith;
+  added = record {
+      low = let a = so.added.low in let b = added.low in omega arith;
+      high = let a = so.added.high in let b = added.high in let most = rows_most levels answer.pair answer.side in omega arith;
+  };
   dictionary = is;
 }
 
@@ -260,8 +263,8 @@ brought_up levels answers old start now held at ge le begun so =
     record {
       stands = subst (λ (l : List Answer). StandsFor levels l now) (ap (λ (n : ℕ). take n answers) whole ∙ take_whole answers) so.stands;
       room = record { columns = so.room.columns ∙ begun.room.columns; rows = so.room.rows ∙ begun.room.rows };
-      warm = λ k l s. let w = begun.warm k l s in (so.loads ∙ w.1, let a = so.added in omega (arith, w.0, w.2));
-      cold = λ none. let w = begun.cold none in (so.loads ∙ w.1, let a = so.added in omega (arith, w.0, w.2));
+      warm = λ k l s. let w = begun.warm k l s in (so.loads ∙ w.1, record { low = let a = so.added.low in omega (arith, w.2); high = let a = so.added.high in omega (arith, w.0, w.2) });
+      cold = λ none. let w = begun.cold none in (so.loads ∙ w.1, record { low = let a = so.added.low in omega (arith, w.2); high = let a = so.added.high in omega (arith, w.0, w.2) });
     }
 
 pub begun_is_warm : (levels : List ℕ) (answers : List Answer) (old start : Tableau) (held h : ℕ) → start ≡ old → held ≡ h → h ≤ length answers → StandsFor levels (take h answers) old → Begun levels answers old start held
@@ -278,6 +281,6 @@ brought_none levels answers old start held begun is = record {
   stands = begun.stands;
   room = record { columns = refl; rows = refl };
   loads = refl;
-  added = omega arith;
+  added = record { low = omega arith; high = omega arith };
   dictionary = is;
 }

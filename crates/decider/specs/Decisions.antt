@@ -15,7 +15,7 @@ use Rattle.decider.specs.declared.decision.Decision.TheVariants.{Undecided, Impl
 abbrev pub numbers_of : Combination → List ℤ
 numbers_of combination = combination.scale ∷ combination.increments ++ map (λ cite. cite.weight) combination.answers
 
--- two vectors that open the pair, each without a common divisor; or a combination without one, which proves the verdict, so that this is the pair's ranking
+-- two vectors that open the pair, each without a common divisor; or a combination without one, its scale below 2^96, which proves the verdict, so that this is the pair's ranking
 abbrev pub IsDecision : List ℕ → List Answer → Pair → Decision → Type 0
 IsDecision levels answers pair (Undecided plus minus) = Opens levels answers pair plus minus × IsOpen levels answers pair × HasNoDivisor plus × HasNoDivisor minus
 IsDecision levels answers pair (Implied verdict combination) =

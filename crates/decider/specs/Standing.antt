@@ -1,5 +1,5 @@
 -- Dictionaries whose rows are those of answers.
-use Rattle.std.specs.Prelude.{ℕ, ◌+◌, ◌-◌, ◌*◌, ◌≡◌, ◌<◌, ◌≤◌, List, [], ◌∷◌, ◌++◌, length, take, ℤ, pos}
+use Rattle.std.specs.Prelude.{ℕ, ◌+◌, ◌-◌, ◌*◌, ◌^◌, min, ◌≡◌, ◌<◌, ◌≤◌, List, [], ◌∷◌, ◌++◌, length, take, ℤ, pos}
 use Rattle.std.specs.List.{flat_map}
 use Rattle.criteria_model.specs.declared.pairs.Pair.{Pair}
 use Rattle.criteria_model.specs.declared.pairs.Answer.{Answer}
@@ -46,11 +46,16 @@ pub record KeepsRoom (old new : Tableau) : Type 0 where
   pub columns : new.room_columns ≡ old.room_columns
   pub rows : new.room_rows ≡ old.room_rows
 
+-- a count rose by at most so much, or stayed; it stands still at its last value, 2^64 - 1
+pub record RisesAtMost (before now most : ℕ) : Type 0 where
+  pub low : min before (2 ^ 64 - 1) ≤ now
+  pub high : now ≤ before + most
+
 -- afterwards the dictionary stands for the answers: loaded anew only where it stood for none of their prefixes, with at most two rows for each answer that it lacked, and `more` besides
 pub record BringsUp (levels : List ℕ) (answers : List Answer) (more : ℕ) (old new : Tableau) : Type 0 where
   pub stands : StandsFor levels answers new
   pub room : KeepsRoom old new
   pub warm : (held : ℕ) → held ≤ length answers → StandsFor levels (take held answers) old
-      → (new.loads ≡ old.loads) × (new.added ≤ old.added + 2 * (length answers - held) + more)
+      → (new.loads ≡ old.loads) × RisesAtMost old.added new.added (2 * (length answers - held) + more)
   pub cold : ((held : ℕ) → held ≤ length answers → ¬ StandsFor levels (take held answers) old)
-      → (new.loads ≡ next_count old.loads) × (new.added ≤ old.added + 2 * length answers + more)
+      → (new.loads ≡ next_count old.loads) × RisesAtMost old.added new.added (2 * length answers + more)

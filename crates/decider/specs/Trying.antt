@@ -1,5 +1,5 @@
 -- Rankings tried beside the rows of a dictionary.
-use Rattle.std.specs.Prelude.{ℕ, ◌+◌, ◌≡◌, ◌≤◌, List, ℤ}
+use Rattle.std.specs.Prelude.{ℕ, ◌≡◌, List, ℤ}
 use Rattle.criteria_model.specs.declared.pairs.Pair.{Pair}
 use Rattle.criteria_model.specs.declared.pairs.Side.{Side}
 use Rattle.criteria_model.specs.declared.pairs.Side.TheVariants.{Left, Right, Equal}
@@ -7,7 +7,7 @@ use Rattle.criteria_model.specs.Answers.{Ranks}
 use Rattle.fraction_free.specs.declared.loaded.LoadedRow.{LoadedRow}
 use Rattle.fraction_free.specs.Tableau.{Tableau}
 use Rattle.simplex.specs.Rows.{MeetsRows, HasNoDivisor}
-use Rattle.decider.specs.Standing.{KeepsRoom}
+use Rattle.decider.specs.Standing.{KeepsRoom, RisesAtMost}
 
 -- the ranking that is tried against one that a vector gives
 abbrev pub against : Side → Side
@@ -30,4 +30,4 @@ pub record IsTried (old new : Tableau) (most : ℕ) : Type 0 where
   pub loaded : new.loaded ≡ old.loaded
   pub room : KeepsRoom old new
   pub loads : new.loads ≡ old.loads
-  pub added : new.added ≤ old.added + most
+  pub added : RisesAtMost old.added new.added most

@@ -4,7 +4,7 @@ ghost use Rattle.criteria_model.specs.declared.pairs.Pair.{Pair};
 ghost use Rattle.criteria_model.specs.Worth.{increments};
 ghost use Rattle.criteria_model.specs.Pairs.{IsFit};
 ghost use Rattle.fraction_free.specs.Tableau.{IsDictionary};
-ghost use Rattle.decider.specs.Standing.{rows_of, HasRow, BeginsAt, KeepsRoom};
+ghost use Rattle.decider.specs.Standing.{rows_of, HasRow, BeginsAt, KeepsRoom, RisesAtMost};
 
 use criteria_model::{Model, Pair, Row, Side};
 use fraction_free::Dictionary;
@@ -56,7 +56,7 @@ pub fn add_rows(model: &Model, pair: &Pair, side: Side, work: &mut Dictionary)
     ensures columns { work.new.columns ≡ work.old.columns }
     ensures room { KeepsRoom work.old work.new }
     ensures loads { work.new.loads ≡ work.old.loads }
-    ensures added { work.new.added ≤ work.old.added + length (rows_of model.now.levels pair.now side) }
+    ensures added { RisesAtMost work.old.added work.new.added (length (rows_of model.now.levels pair.now side)) }
     ensures dictionary { IsDictionary work.new }
 {
     match side {

@@ -5,7 +5,7 @@ ghost use Rattle.criteria_model.specs.Pairs.{IsFit};
 ghost use Rattle.fraction_free.specs.Tableau.{IsDictionary};
 ghost use Rattle.simplex.specs.Rows.{MeetsRows, HasNoDivisor};
 ghost use Rattle.simplex.specs.Results.{IsFound};
-ghost use Rattle.decider.specs.Standing.{rows_of, KeepsRoom};
+ghost use Rattle.decider.specs.Standing.{rows_of, KeepsRoom, RisesAtMost};
 
 use crate::rows::{add_rows, row_count};
 use criteria_model::{Model, Pair, Side, Vector};
@@ -22,7 +22,7 @@ pub fn try_side(model: &Model, pair: &Pair, side: Side, work: &mut Dictionary) -
     ensures columns { work.new.columns ≡ work.old.columns }
     ensures room { KeepsRoom work.old work.new }
     ensures loads { work.new.loads ≡ work.old.loads }
-    ensures added { work.new.added ≤ work.old.added + length (rows_of model.now.levels pair.now side) }
+    ensures added { RisesAtMost work.old.added work.new.added (length (rows_of model.now.levels pair.now side)) }
     ensures dictionary { IsDictionary work.new }
 {
     add_rows(model, pair, side, work);
@@ -46,7 +46,7 @@ pub fn point_for(model: &Model, pair: &Pair, side: Side, work: &mut Dictionary) 
     ensures columns { work.new.columns ≡ work.old.columns }
     ensures room { KeepsRoom work.old work.new }
     ensures loads { work.new.loads ≡ work.old.loads }
-    ensures added { work.new.added ≤ work.old.added + length (rows_of model.now.levels pair.now side) }
+    ensures added { RisesAtMost work.old.added work.new.added (length (rows_of model.now.levels pair.now side)) }
     ensures dictionary { IsDictionary work.new }
 {
     match try_side(model, pair, side, work) {
