@@ -245,8 +245,8 @@ brought_more levels answers start now new held at answer low lt e loaded columns
   room = record { columns = room.columns ∙ so.room.columns; rows = room.rows ∙ so.room.rows };
   loads = loads ∙ so.loads;
   added = record {
-      low = let a = so.added.low in let b = added.low in omega arith;
-      high = let a = so.added.high in let b = added.high in let most = rows_most levels answer.pair answer.side in omega arith;
+    low = let a = so.added.low in let b = added.low in omega arith;
+    high = let a = so.added.high in let b = added.high in let most = rows_most levels answer.pair answer.side in omega arith;
   };
   dictionary = is;
 }

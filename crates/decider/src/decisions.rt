@@ -110,3 +110,6 @@ fn opening(
         Side::Equal => (point_for(model, pair, Side::Left, work), *other),
     }
 }
+
+#[cfg(test)]
+mod tests;
