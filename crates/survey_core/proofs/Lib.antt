@@ -7,3 +7,4 @@ pub mod TableLemmas
 pub mod ReadLemmas
 pub mod KeptLemmas
 pub mod NewLemmas
+pub mod RankingLemmas

@@ -67,12 +67,12 @@ abbrev pub HasRanking : List Event → ℕ → Side → Type 0
 HasRanking history place side = Any (λ event. Gives (issued history) place event side) (standing history)
 
 -- a class has such a ranking exactly where it is ranked by an event
-abbrev pub RankedHaveRanking : Type 0
-RankedHaveRanking = (history : List Event) (place : ℕ) → IsTrue (is_ranked history place) ↔ ((side : Side) × HasRanking history place side)
+abbrev pub RankedHasRanking : Type 0
+RankedHasRanking = (history : List Event) (place : ℕ) → IsTrue (is_ranked history place) ↔ ((side : Side) × HasRanking history place side)
 
 -- in a legal history a class has one ranking at most
-abbrev pub HaveOneRanking : Type 0
-HaveOneRanking =
+abbrev pub EachHasOneRanking : Type 0
+EachHasOneRanking =
     (listed : Listed) (history : List Event) (place : ℕ) (one other : Side) → IsListed listed → IsLegal listed history
     → HasRanking history place one → HasRanking history place other → one ≡ other
 
