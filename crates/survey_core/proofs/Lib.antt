@@ -7,3 +7,5 @@ pub mod TableLemmas
 pub mod ReadLemmas
 pub mod KeptLemmas
 pub mod NewLemmas
+pub mod NextTables
+pub mod NextKept
