@@ -8,3 +8,5 @@ pub mod ReadLemmas
 pub mod KeptLemmas
 pub mod NewLemmas
 pub mod RankingLemmas
+pub mod NextTables
+pub mod NextKept

@@ -1,5 +1,6 @@
 // What a history comes to, kept for each class and each question.
 ghost use Rattle.std.specs.Prelude.{◌≡◌, ◌↔◌, ◌⊎◌, ◌+◌, ◌-◌, ◌^◌, ◌<◌, ◌≤◌, [], ◌∷◌, ◌++◌, Some, None, length, map, replicate, count_by, slice_get, IsTrue, IsFalse, IfOk, MatchOption};
+ghost use Rattle.std.specs.Option.{option_map};
 ghost use Rattle.survey_core.specs.declared.marks.Mark.{Mark};
 ghost use Rattle.survey_core.specs.declared.marks.Question.{Question};
 ghost use Rattle.survey_core.specs.declared.marks.Ending.TheVariants.{Open as StillOpen};
@@ -164,6 +165,15 @@ impl Marks {
         self.questions.as_slice().get(number as usize - 1).copied()
     }
 
+    /// The place of the class that the question of a number asks.
+    pub fn asked_place(&self, number: u32) -> u32
+        requires low { 1 ≤ number }
+        requires high { number ≤ length self.now.questions }
+        ensures { option_map (λ question. question.place) (slice_get self.now.questions (number - 1)) ≡ Some result }
+    {
+        self.questions[number as usize - 1].place
+    }
+
     /// How many questions are open.
     pub fn open_questions(&self) -> u32
         ensures { result ≡ count_by is_open_mark self.now.questions }
@@ -209,7 +219,6 @@ impl Marks {
         requires before { (mark : Mark) → slice_get self.old.classes (place - 1) ≡ Some mark → IsFalse mark.issued }
         ensures classes { self.new.classes ≡ with_issued self.old.classes (place - 1) }
         ensures questions { self.new.questions ≡ self.old.questions ++ record { place = place; ending = StillOpen } ∷ [] }
-        ensures few { length self.new.questions ≤ length self.new.classes }
     {
         let mark = &mut self.classes[place as usize - 1];
         mark.issued = true;

@@ -9,17 +9,19 @@ ghost use Rattle.pair_enumeration.specs.Listed.{IsListed};
 ghost use Rattle.pair_enumeration.specs.Places.{StandsAt};
 ghost use Rattle.survey_core.specs.Histories.{issued, is_issued, place_of, class_at, committed, is_ranked, is_eliminated, open_questions, IsOpenQuestion, withdrawals as withdrawals_of};
 ghost use Rattle.survey_core.specs.Legal.{IsEvent, IsPlace, AreEarlierAsked, OpensPlace, MayEliminate, MayIssue, MayCommit, MayClose, MayWithdraw, MayFollow, IsLegal};
+ghost use Rattle.survey_core.specs.Laws.{last_point};
+ghost use Rattle.survey_core.specs.Marked.{greatest_cited};
 ghost use Rattle.survey_core.specs.Verdicts.{EliminateFails, IssueFails, CommitFails, CloseFails, WithdrawFails, FailsFirst};
 ghost use Rattle.survey_core.specs.States.{HasState};
 
 use crate::broken::Broken;
 use crate::events::Event;
 use crate::limits::spent;
-use crate::marks::Marks;
+use crate::marks::{Ending, Marks, Ranking};
 use crate::questions::QuestionState;
 use answer_rows::Answers;
-use criteria_model::{Model, Pair, Side, Vector};
-use farkas_check::{Combination, Flaw};
+use criteria_model::{Answer, Model, Pair, Side, Vector};
+use farkas_check::{Cites, Combination, Flaw};
 use pair_enumeration::Classes;
 use std::alloc::{AllocError as NoMemory, Global};
 use std::snapshot::Snapshot;
@@ -299,6 +301,46 @@ impl Core {
         Ok(())
     }
 
+    /// Puts an event that may follow at the end of the history. It takes no memory.
+    pub fn apply(&mut self, event: &Event)
+        requires event { IsEvent self.old.listed.criteria.levels event.now }
+        requires allowed { MayFollow self.old.listed self.old.history event.now }
+        ensures listed { self.new.listed ≡ self.old.listed }
+        ensures history { self.new.history ≡ self.old.history ++ event.now ∷ [] }
+        ensures legal { IsLegal self.new.listed self.new.history }
+        ensures met { MeetsAll self.new.listed.criteria.levels (committed self.new.listed.classes self.new.history) (last_point self.new.listed.criteria.levels self.new.history) }
+    {
+        self.events.push_reserved(Snapshot::of(event));
+        match event {
+            Event::Eliminate {
+                place,
+                combination,
+                ..
+            } => {
+                let rests_on = last_cited(&combination.answers);
+                self.marks.rank(*place, Ranking::Eliminated { rests_on });
+            }
+            Event::Issue { place, .. } => self.marks.issue(*place),
+            Event::Commit { question, side, .. } => {
+                let answer = self.answers.len() + 1;
+                let place = self.marks.asked_place(*question);
+                let pair = self.classes.class(place);
+                self.answers.push(Answer { pair, side: *side });
+                self.marks.rank(place, Ranking::Committed { answer });
+                self.marks.end(*question, Ending::Committed { answer });
+            }
+            Event::Close { question, .. } => {
+                let rests_on = self.answers.len();
+                self.marks.end(*question, Ending::Closed { rests_on });
+            }
+            Event::Withdraw { answer, .. } => {
+                self.answers.cut(*answer - 1);
+                self.marks.withdraw(*answer);
+                self.withdrawals += 1;
+            }
+        }
+    }
+
     /// The model.
     pub fn model(&self) -> Model
         ensures value { result ≡ self.now.listed.criteria }
@@ -391,6 +433,17 @@ fn ranks(model: &Model, vector: &Vector, pair: &Pair, side: Side) -> bool
         Side::Right => left < right,
         Side::Equal => left == right,
     }
+}
+
+/// The number of the last answer that is cited; 0 where none is.
+fn last_cited(cites: &Cites) -> u32
+    ensures { result ≡ greatest_cited cites.now }
+{
+    let count = cites.len();
+    if count == 0 {
+        return 0;
+    }
+    cites.cite(count).answer
 }
 
 #[cfg(test)]
