@@ -26,7 +26,8 @@ use Rattle.result_file.specs.Parts.{part_of}
 use Rattle.result_file.specs.Texts.{claim_line, end_line}
 use Rattle.result_file.specs.Reading.{answer_at, elimination_at}
 use Rattle.result_file.specs.Eliminations.{Reads}
-use Rattle.result_file.specs.Checked.{most_claims, HasForm, HasPairForm, HasEliminationForm, FailsAs, Fails, begun}
+use Rattle.result_file.specs.Forms.{HasPairForm, HasEliminationForm}
+use Rattle.result_file.specs.Checked.{most_claims, HasForm, FailsAs, Fails, begun}
 use Rattle.result_file.specs.Kept.{KeptClaims, Keeps, Adds, Accepts}
 use Rattle.result_file.specs.Stops.{StopsAt, Refuses}
 use Rattle.result_file.proofs.LineLaws.{IsPair, answer_takes, answer_again}

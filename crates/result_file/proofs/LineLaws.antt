@@ -17,7 +17,7 @@ use Rattle.criteria_model.specs.declared.pairs.Answer.{Answer}
 use Rattle.criteria_model.specs.declared.pairs.Side.{Side}
 use Rattle.criteria_model.specs.declared.pairs.Side.TheVariants.{Left, Right, Equal}
 use Rattle.result_file.specs.Texts.{pair_text, side_text, ranking_text, answer_line, model_line}
-use Rattle.result_file.specs.Checked.{HasModelForm}
+use Rattle.result_file.specs.Forms.{HasModelForm}
 use Rattle.criteria_model.specs.Criteria.{Criteria}
 use Rattle.result_file.specs.Reading.{at_end, or_else, exactly, tuple_at, pair_at, side_behind, side_at, ranking_at, answer_at, model_at}
 

@@ -1,6 +1,8 @@
 pub mod Claims
 pub mod Texts
 pub mod Parts
+pub mod Forms
+pub mod Entries
 pub mod Checked
 pub mod Reading
 pub mod Eliminations

@@ -4,6 +4,7 @@
 mod checking;
 mod claims;
 mod eliminations;
+mod entries;
 mod lines;
 mod places;
 mod stops;
@@ -11,4 +12,5 @@ mod verdicts;
 
 pub use checking::check_result;
 pub use eliminations::Elimination;
+pub use entries::{Entry, Format};
 pub use verdicts::{Checked, Part};
