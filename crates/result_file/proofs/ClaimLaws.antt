@@ -42,13 +42,13 @@ few_criteria (n ∷ levels) h =
     let others = few_criteria levels (λ k d lt. h (suc k) d (omega arith)) in
     omega (arith, sum_by-cons (λ (m : ℕ). m - 1) n levels)
 
-record IsSmall (criteria : Criteria) : Type 0 where
-  some : 1 ≤ length criteria.levels
-  most : length criteria.levels ≤ 24
-  some_increments : 1 ≤ increments criteria.levels
-  most_increments : increments criteria.levels ≤ 24
+pub record IsSmall (criteria : Criteria) : Type 0 where
+  pub some : 1 ≤ length criteria.levels
+  pub most : length criteria.levels ≤ 24
+  pub some_increments : 1 ≤ increments criteria.levels
+  pub most_increments : increments criteria.levels ≤ 24
 
-is_small : (criteria : Criteria) → IsModel criteria → IsSmall criteria
+pub is_small : (criteria : Criteria) → IsModel criteria → IsSmall criteria
 is_small criteria m =
     let few = few_criteria criteria.levels m.two_levels in
     record {
@@ -60,13 +60,13 @@ is_small criteria m =
 
 -- ---- forms, as they are read
 
-pair_form : (criteria : Criteria) (pair : Pair) → IsPair (length criteria.levels) pair → HasPairForm criteria pair
+pub pair_form : (criteria : Criteria) (pair : Pair) → IsPair (length criteria.levels) pair → HasPairForm criteria pair
 pair_form criteria pair h = record {
   left = record { len = h.left.len; each = h.left.each };
   right = record { len = h.right.len; each = h.right.each };
 }
 
-pair_read : (criteria : Criteria) (pair : Pair) → HasPairForm criteria pair → IsPair (length criteria.levels) pair
+pub pair_read : (criteria : Criteria) (pair : Pair) → HasPairForm criteria pair → IsPair (length criteria.levels) pair
 pair_read criteria pair h = record {
   left = record { len = h.left.len; each = h.left.each };
   right = record { len = h.right.len; each = h.right.each };
@@ -112,13 +112,13 @@ answer_line_again criteria answer m h =
     let s = is_small criteria m in
     answer_again (length criteria.levels) answer s.some s.most (pair_read criteria answer.pair h)
 
-elimination_line_takes : (criteria : Criteria) (line : List ℕ) (e : Elimination) → IsModel criteria → elimination_at (length criteria.levels) (increments criteria.levels) line ≡ Some e → AreCites e.combination.answers → (line ≡ claim_line (eliminated e)) × HasForm criteria (eliminated e)
+pub elimination_line_takes : (criteria : Criteria) (line : List ℕ) (e : Elimination) → IsModel criteria → elimination_at (length criteria.levels) (increments criteria.levels) line ≡ Some e → AreCites e.combination.answers → (line ≡ claim_line (eliminated e)) × HasForm criteria (eliminated e)
 elimination_line_takes criteria line e m spelled cites =
     let s = is_small criteria m in
     let t = elimination_takes (length criteria.levels) (increments criteria.levels) line e s.some s.most s.some_increments s.most_increments spelled in
     (t.0, elimination_form criteria e t.1 cites)
 
-elimination_line_again : (criteria : Criteria) (e : Elimination) → IsModel criteria → HasForm criteria (eliminated e) → elimination_at (length criteria.levels) (increments criteria.levels) (claim_line (eliminated e)) ≡ Some e
+pub elimination_line_again : (criteria : Criteria) (e : Elimination) → IsModel criteria → HasForm criteria (eliminated e) → elimination_at (length criteria.levels) (increments criteria.levels) (claim_line (eliminated e)) ≡ Some e
 elimination_line_again criteria e m h =
     let s = is_small criteria m in
     elimination_again (length criteria.levels) (increments criteria.levels) e s.some s.most s.some_increments s.most_increments (elimination_read criteria e h)
