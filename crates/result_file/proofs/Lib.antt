@@ -3,6 +3,8 @@ pub mod EliminationLaws
 pub mod ClaimLaws
 pub mod EntryLaws
 pub mod LineEndLaws
+pub mod EventLaws
+pub mod ContentLaws
 pub mod StageLaws
 pub mod VerdictLaws
 pub mod WorthLaws

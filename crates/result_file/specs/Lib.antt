@@ -3,10 +3,16 @@ pub mod Texts
 pub mod Parts
 pub mod Forms
 pub mod Entries
+pub mod Events
+pub mod RightClaims
+pub mod RightEvents
+pub mod Contents
 pub mod Checked
+pub mod Worth
 pub mod Reading
 pub mod Eliminations
 pub mod Kept
+pub mod Bodies
 pub mod Places
 pub mod Stops
 pub mod Verdicts

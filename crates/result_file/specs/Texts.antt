@@ -12,15 +12,24 @@ use Rattle.farkas_check.specs.declared.combination.Combination.{Combination}
 use Rattle.result_file.specs.declared.eliminations.Elimination.{Elimination}
 use Rattle.result_file.specs.declared.entries.Entry.{Entry}
 use Rattle.result_file.specs.declared.entries.Entry.TheVariants.{Eliminate, Issue, Commit, Close, Withdraw}
+use Rattle.result_file.specs.declared.entries.Format.TheVariants.{One, Two}
+use Rattle.result_file.specs.declared.kinds.Kind.{Kind}
+use Rattle.result_file.specs.declared.kinds.Kind.TheVariants.{Claims, Result}
 use Rattle.result_file.specs.Claims.{Claim, answered, eliminated}
 
 -- the longest line
 abbrev pub longest_line : ℕ
 longest_line = 4096
 
--- the first line
-abbrev pub heading : List ℕ
-heading = codes "paprika claims 1"
+-- the most lines between the model line and the end
+abbrev pub most_lines : ℕ
+most_lines = 131072
+
+-- the first line of a file of this kind
+abbrev pub heading : Kind → List ℕ
+heading Claims = codes "paprika claims 1"
+heading (Result One) = codes "paprika result 1"
+heading (Result Two) = codes "paprika result 2"
 
 -- the last line
 abbrev pub end_line : List ℕ
