@@ -9,3 +9,4 @@ pub mod KeptLemmas
 pub mod NewLemmas
 pub mod NextTables
 pub mod NextKept
+pub mod ShortLemmas
