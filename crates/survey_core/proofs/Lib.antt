@@ -10,3 +10,4 @@ pub mod NewLemmas
 pub mod RankingLemmas
 pub mod NextTables
 pub mod NextKept
+pub mod ShortLemmas

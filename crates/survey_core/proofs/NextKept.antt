@@ -414,7 +414,7 @@ module _ (listed : Listed) (history : List Event) (answers : AnswersWithRoom) (t
       → 1 ≤ count_by is_open_mark table.questions
   open_some number question at before = omega (arith, open_less number question (Closed 0) at before refl)
 
-  question_found : (number : ℕ) → IsOpenQuestion history number → (question : Question) × (slice_get table.questions (number - 1) ≡ Some question)
+  pub question_found : (number : ℕ) → IsOpenQuestion history number → (question : Question) × (slice_get table.questions (number - 1) ≡ Some question)
   question_found number is =
       let within : (1 ≤ number) × (number ≤ length table.questions) = asked_within number is in
       slice_get_inside table.questions (number - 1) (omega (arith, within.0, within.1))
@@ -468,6 +468,9 @@ module _ (listed : Listed) (history : List Event) (answers : AnswersWithRoom) (t
 
   asking : (number place : ℕ) → AsksPlace number place → Asking number place
   asking number place asks = map_some (λ (q : Question). q.place) (slice_get table.questions (number - 1)) place asks
+
+  pub asks_question : (number : ℕ) (question : Question) → slice_get table.questions (number - 1) ≡ Some question → AsksPlace number question.place
+  asks_question number question at = ap (λ (o : Option Question). option_map (λ (q : Question). q.place) o) at
 
   pub asked_class : (number place : ℕ) → AsksPlace number place → IsPlace listed place
   asked_class number place asks =

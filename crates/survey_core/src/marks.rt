@@ -19,6 +19,7 @@ pub(crate) enum Ranking {
 }
 
 impl Ranking {
+    /// Whether the class is ranked.
     pub fn is_ranked(&self) -> bool
         ensures { result ≡ is_ranking self.now }
     {
@@ -28,6 +29,7 @@ impl Ranking {
         }
     }
 
+    /// Whether it is eliminated.
     pub fn is_eliminated(&self) -> bool
         ensures { result ≡ is_elimination self.now }
     {
@@ -49,6 +51,7 @@ impl Ranking {
     }
 }
 
+/// What is marked of a class.
 #[derive(Clone, Copy)]
 pub(crate) struct Mark {
     pub ranking: Ranking,
@@ -56,6 +59,7 @@ pub(crate) struct Mark {
 }
 
 impl Mark {
+    /// Whether the class is ranked or issued.
     fn is_settled(&self) -> bool
         ensures { result ≡ is_settled self.now }
     {
@@ -74,6 +78,7 @@ pub(crate) enum Ending {
 }
 
 impl Ending {
+    /// Whether the question has not ended.
     pub fn is_open(&self) -> bool
         ensures { result ≡ is_open self.now }
     {
@@ -95,6 +100,7 @@ impl Ending {
     }
 }
 
+/// What is marked of a question; `place` is that of the class that it asks.
 #[derive(Clone, Copy)]
 pub(crate) struct Question {
     pub place: u32,
@@ -273,6 +279,7 @@ fn settled_from(classes: &[Mark], from: usize) -> usize
     classes.len()
 }
 
+/// How many classes are ranked.
 fn count_ranked(classes: &[Mark]) -> u32
     requires { length classes.now ≤ 16384 }
     ensures { result ≡ count_by is_ranked_mark classes.now }
@@ -283,6 +290,7 @@ fn count_ranked(classes: &[Mark]) -> u32
         .count() as u32
 }
 
+/// How many questions are open.
 fn count_open(questions: &[Question]) -> u32
     requires { length questions.now ≤ 16384 }
     ensures { result ≡ count_by is_open_mark questions.now }
@@ -293,6 +301,7 @@ fn count_open(questions: &[Question]) -> u32
         .count() as u32
 }
 
+/// Takes back the rankings that rest on this answer or on later ones.
 fn unrank(classes: &mut [Mark], answer: u32)
     ensures { classes.new ≡ map (left_mark answer) classes.old }
 {
@@ -301,6 +310,7 @@ fn unrank(classes: &mut [Mark], answer: u32)
     }
 }
 
+/// Opens the questions again whose ends rest on this answer or on later ones.
 fn reopen(questions: &mut [Question], answer: u32)
     ensures { questions.new ≡ map (left_question answer) questions.old }
 {

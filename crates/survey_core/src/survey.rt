@@ -112,6 +112,7 @@ impl Core {
         }
     }
 
+    /// Whether the class at the place may be eliminated by the combination.
     fn may_eliminate(
         &self,
         place: u32,
@@ -136,6 +137,7 @@ impl Core {
         }
     }
 
+    /// What keeps the combination from proving the verdict, or none.
     fn flaw(&self, place: u32, verdict: Side, combination: &Combination) -> Option<Flaw>
         requires place { IsPlace self.now.listed place }
         requires len { length combination.now.increments ≡ increments self.now.listed.criteria.levels }
@@ -148,12 +150,14 @@ impl Core {
         farkas_check::flaw(&model, &self.answers, combination, &pair, verdict)
     }
 
+    /// Whether a class has the place.
     fn has_class(&self, place: u32) -> bool
         ensures { IsTrue result ↔ IsPlace self.now.listed place }
     {
         place >= 1 && place <= self.classes.count()
     }
 
+    /// Whether the class at the place may be issued with these vectors.
     fn may_issue(&self, place: u32, plus: &Vector, minus: &Vector) -> Result<(), Broken>
         requires plus { IsValueVector self.now.listed.criteria.levels plus.now }
         requires minus { IsValueVector self.now.listed.criteria.levels minus.now }
@@ -182,6 +186,7 @@ impl Core {
         Ok(())
     }
 
+    /// Whether the class at the place was issued.
     fn is_issued(&self, place: u32) -> bool
         requires { IsPlace self.now.listed place }
         ensures { result ≡ is_issued self.now.history place }
@@ -209,6 +214,7 @@ impl Core {
         opens(&model, &self.answers, &pair, plus, minus)
     }
 
+    /// Whether the question may be answered so, with these vectors and this point.
     fn may_commit(
         &self,
         question: u32,
@@ -253,6 +259,7 @@ impl Core {
         }
     }
 
+    /// Whether the class at the place has an eliminate that stands.
     fn is_eliminated(&self, place: u32) -> bool
         requires { IsPlace self.now.listed place }
         ensures { result ≡ is_eliminated self.now.history place }
@@ -273,6 +280,7 @@ impl Core {
         meets(&model, &self.answers, point) && ranks(&model, point, &pair, side)
     }
 
+    /// Whether the question may be closed.
     fn may_close(&self, question: u32) -> Result<(), Broken>
         ensures { MatchResult result
             (λ _. MayClose self.now.history question)
@@ -287,6 +295,7 @@ impl Core {
         Ok(())
     }
 
+    /// Whether the answer may be taken back.
     fn may_withdraw(&self, answer: u32) -> Result<(), Broken>
         ensures { MatchResult result
             (λ _. MayWithdraw self.now.listed self.now.history answer)
@@ -435,7 +444,7 @@ fn ranks(model: &Model, vector: &Vector, pair: &Pair, side: Side) -> bool
     }
 }
 
-/// The number of the last answer that is cited; 0 where none is.
+/// The greatest number of a cited answer, which is that of the last cite; 0 where none is cited.
 fn last_cited(cites: &Cites) -> u32
     ensures { result ≡ greatest_cited cites.now }
 {
