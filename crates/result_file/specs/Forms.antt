@@ -32,7 +32,7 @@ pub record HasCombinationForm (criteria : Criteria) (combination : Combination) 
   pub cites : AreCites combination.answers
   pub numbers : All (λ cite. cite.answer ≤ 131072) combination.answers
 
--- an elimination by an eliminator up to 16, or by none
+-- an elimination by a worker from 0 (a session's own call) to 16
 pub record HasEliminationForm (criteria : Criteria) (elimination : Elimination) : Type 0 where
   pub worker : elimination.worker ≤ 16
   pub pair : HasPairForm criteria elimination.pair
