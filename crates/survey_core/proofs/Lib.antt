@@ -8,3 +8,4 @@ pub mod ReadLemmas
 pub mod KeptLemmas
 pub mod NewLemmas
 pub mod RankingLemmas
+pub mod PartLemmas

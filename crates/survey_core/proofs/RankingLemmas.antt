@@ -123,20 +123,17 @@ at_event P before (first ∷ later) each zero event at =
 at_event P before (first ∷ later) each (suc k) event at = at_event P (before + step first) later each.1 k event at
 
 module _ (listed : Listed) (asked : List ℕ) (answers : List Answer) where
-  abbrev levels : List ℕ
-  levels = listed.criteria.levels
-
   -- the place has a class, and the answers rank it so
   abbrev pub RankedAt : ℕ → Side → Type 0
-  RankedAt place side = (pair : Pair) × (class_at listed.classes place ≡ Some pair) × IsRanked levels answers pair side
+  RankedAt place side = (pair : Pair) × (class_at listed.classes place ≡ Some pair) × IsRanked listed.criteria.levels answers pair side
 
   given_ranked : (level place : ℕ) (side : Side) (event : Event) → IsSoundAt listed asked answers level event → Gives asked place event side → RankedAt place side
   given_ranked level place side (Eliminate worker other verdict combination) s g = (
     s.pair,
     ap (λ k. class_at listed.classes k) (sym g.0) ∙ s.class,
     λ values meets.
-        subst (λ (t : Side). Ranks levels values s.pair t) g.1
-        (s.ranked values (record { vector = meets.vector; each = All-take (Meets levels values) level answers meets.each })),
+        subst (λ (t : Side). Ranks listed.criteria.levels values s.pair t) g.1
+        (s.ranked values (record { vector = meets.vector; each = All-take (Meets listed.criteria.levels values) level answers meets.each })),
   )
   given_ranked level place side (Issue desk other plus minus) s g = absurd g
   given_ranked level place side (Commit desk question chosen plus minus point) s g =
@@ -146,8 +143,8 @@ module _ (listed : Listed) (asked : List ℕ) (answers : List Answer) where
         s.pair,
         ap (λ k. class_at listed.classes k) (sym same) ∙ s.class,
         λ values meets.
-            subst (λ (t : Side). Ranks levels values s.pair t) g.1
-            (subst (λ (a : Answer). Meets levels values a) at
+            subst (λ (t : Side). Ranks listed.criteria.levels values s.pair t) g.1
+            (subst (λ (a : Answer). Meets listed.criteria.levels values a) at
             (meets.each (level - 1) given (slice_get_within answers (level - 1) given s.answer))),
       )
   given_ranked level place side (Close desk question) s g = absurd g
