@@ -1,5 +1,5 @@
 -- A first part that fails is one alone, and there is none where all parts hold.
-use Rattle.std.proofs.Common.{◌≡◌, ◌⊎◌, ℕ, zero, suc, ◌<◌, ◌≤◌, IsTrue, IsFalse, Bool, List, length, Option, Some, None, IsSomeAnd, ℤ, refl, ap, sym, subst, ◌∙◌, inl, inr, arith}
+use Rattle.std.proofs.Common.{◌≡◌, ◌⊎◌, ℕ, zero, suc, ◌<◌, IsTrue, IsFalse, Bool, List, length, Option, Some, None, IsSomeAnd, ℤ, refl, ap, sym, subst, ◌∙◌, inl, inr, arith}
 use Rattle.std.proofs.lemmas.Option.{same_Some}
 use Rattle.criteria_model.specs.declared.pairs.Pair.{Pair}
 use Rattle.criteria_model.specs.declared.pairs.Answer.{Answer}
@@ -14,11 +14,11 @@ use Rattle.survey_core.specs.declared.broken.Broken.{Broken}
 use Rattle.survey_core.specs.declared.broken.Broken.TheVariants as broken
 use Rattle.survey_core.specs.declared.events.Event.{Event}
 use Rattle.survey_core.specs.declared.events.Event.TheVariants.{Eliminate, Issue, Commit, Close, Withdraw}
-use Rattle.survey_core.specs.Histories.{is_issued, place_of, issued, class_at, committed, open_questions, IsOpenQuestion, is_eliminated, is_ranked, withdrawals}
-use Rattle.survey_core.specs.Legal.{IsPlace, IsUnranked, AreEarlierAsked, OpensPlace, IsUneliminated, IsEliminated, OpensQuestion, MeetsWith, IsLastAnswer, IsSpent, MayEliminate, MayIssue, MayCommit, MayClose, MayWithdraw, MayFollow}
-use Rattle.survey_core.specs.Verdicts.{EliminateFails, IssueFails, CommitFails, CloseFails, WithdrawFails, FailsFirst}
+use Rattle.survey_core.specs.Histories.{is_issued, place_of, issued, class_at, committed, open_questions, IsOpenQuestion, is_eliminated, is_ranked}
+use Rattle.survey_core.specs.Legal.{IsPlace, IsUnranked, AreEarlierAsked, OpensPlace, IsUneliminated, IsEliminated, OpensQuestion, MeetsWith, MayEliminate, MayIssue, MayCommit, MayClose, MayWithdraw}
+use Rattle.survey_core.specs.Verdicts.{EliminateFails, IssueFails, CommitFails, CloseFails, WithdrawFails}
 use Rattle.survey_core.specs.Laws.{OneFirstPart, AllowedLacksNone}
-use Rattle.survey_core.proofs.ListSteps.{some_and, some_at}
+use Rattle.survey_core.proofs.ListSteps.{some_and}
 
 -- ---- parts by their numbers
 -- the first so many parts hold
