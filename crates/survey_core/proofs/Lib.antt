@@ -11,3 +11,4 @@ pub mod RankingLemmas
 pub mod NextTables
 pub mod NextKept
 pub mod ShortLemmas
+pub mod PartLemmas
