@@ -1,6 +1,10 @@
 pub mod LineLaws
 pub mod EliminationLaws
 pub mod ClaimLaws
+pub mod EntryLaws
+pub mod LineEndLaws
+pub mod EventLaws
+pub mod ContentLaws
 pub mod StageLaws
 pub mod VerdictLaws
 pub mod WorthLaws

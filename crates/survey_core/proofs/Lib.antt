@@ -8,4 +8,7 @@ pub mod ReadLemmas
 pub mod KeptLemmas
 pub mod NewLemmas
 pub mod RankingLemmas
+pub mod NextTables
+pub mod NextKept
 pub mod PartLemmas
+pub mod ShortLemmas

@@ -1,5 +1,6 @@
 // What a history comes to, kept for each class and each question.
 ghost use Rattle.std.specs.Prelude.{◌≡◌, ◌↔◌, ◌⊎◌, ◌+◌, ◌-◌, ◌^◌, ◌<◌, ◌≤◌, [], ◌∷◌, ◌++◌, Some, None, length, map, replicate, count_by, slice_get, IsTrue, IsFalse, IfOk, MatchOption};
+ghost use Rattle.std.specs.Option.{option_map};
 ghost use Rattle.survey_core.specs.declared.marks.Mark.{Mark};
 ghost use Rattle.survey_core.specs.declared.marks.Question.{Question};
 ghost use Rattle.survey_core.specs.declared.marks.Ending.TheVariants.{Open as StillOpen};
@@ -18,6 +19,7 @@ pub(crate) enum Ranking {
 }
 
 impl Ranking {
+    /// Whether the class is ranked.
     pub fn is_ranked(&self) -> bool
         ensures { result ≡ is_ranking self.now }
     {
@@ -27,6 +29,7 @@ impl Ranking {
         }
     }
 
+    /// Whether it is eliminated.
     pub fn is_eliminated(&self) -> bool
         ensures { result ≡ is_elimination self.now }
     {
@@ -48,6 +51,7 @@ impl Ranking {
     }
 }
 
+/// What is marked of a class.
 #[derive(Clone, Copy)]
 pub(crate) struct Mark {
     pub ranking: Ranking,
@@ -55,6 +59,7 @@ pub(crate) struct Mark {
 }
 
 impl Mark {
+    /// Whether the class is ranked or issued.
     fn is_settled(&self) -> bool
         ensures { result ≡ is_settled self.now }
     {
@@ -73,6 +78,7 @@ pub(crate) enum Ending {
 }
 
 impl Ending {
+    /// Whether the question has not ended.
     pub fn is_open(&self) -> bool
         ensures { result ≡ is_open self.now }
     {
@@ -94,6 +100,7 @@ impl Ending {
     }
 }
 
+/// What is marked of a question; `place` is that of the class that it asks.
 #[derive(Clone, Copy)]
 pub(crate) struct Question {
     pub place: u32,
@@ -164,6 +171,15 @@ impl Marks {
         self.questions.as_slice().get(number as usize - 1).copied()
     }
 
+    /// The place of the class that the question of a number asks.
+    pub fn asked_place(&self, number: u32) -> u32
+        requires low { 1 ≤ number }
+        requires high { number ≤ length self.now.questions }
+        ensures { option_map (λ question. question.place) (slice_get self.now.questions (number - 1)) ≡ Some result }
+    {
+        self.questions[number as usize - 1].place
+    }
+
     /// How many questions are open.
     pub fn open_questions(&self) -> u32
         ensures { result ≡ count_by is_open_mark self.now.questions }
@@ -209,7 +225,6 @@ impl Marks {
         requires before { (mark : Mark) → slice_get self.old.classes (place - 1) ≡ Some mark → IsFalse mark.issued }
         ensures classes { self.new.classes ≡ with_issued self.old.classes (place - 1) }
         ensures questions { self.new.questions ≡ self.old.questions ++ record { place = place; ending = StillOpen } ∷ [] }
-        ensures few { length self.new.questions ≤ length self.new.classes }
     {
         let mark = &mut self.classes[place as usize - 1];
         mark.issued = true;
@@ -264,6 +279,7 @@ fn settled_from(classes: &[Mark], from: usize) -> usize
     classes.len()
 }
 
+/// How many classes are ranked.
 fn count_ranked(classes: &[Mark]) -> u32
     requires { length classes.now ≤ 16384 }
     ensures { result ≡ count_by is_ranked_mark classes.now }
@@ -274,6 +290,7 @@ fn count_ranked(classes: &[Mark]) -> u32
         .count() as u32
 }
 
+/// How many questions are open.
 fn count_open(questions: &[Question]) -> u32
     requires { length questions.now ≤ 16384 }
     ensures { result ≡ count_by is_open_mark questions.now }
@@ -284,6 +301,7 @@ fn count_open(questions: &[Question]) -> u32
         .count() as u32
 }
 
+/// Takes back the rankings that rest on this answer or on later ones.
 fn unrank(classes: &mut [Mark], answer: u32)
     ensures { classes.new ≡ map (left_mark answer) classes.old }
 {
@@ -292,6 +310,7 @@ fn unrank(classes: &mut [Mark], answer: u32)
     }
 }
 
+/// Opens the questions again whose ends rest on this answer or on later ones.
 fn reopen(questions: &mut [Question], answer: u32)
     ensures { questions.new ≡ map (left_question answer) questions.old }
 {

@@ -1,5 +1,4 @@
 use Rattle.std.proofs.Common.{◌≡◌, ℕ, ◌-◌, ◌<◌, List, length, slice_get, slice_set, true, Some, Option, refl, ap, sym, subst, ◌∙◌, arith}
-use Rattle.std.proofs.lemmas.List.Sums.{count_by-le-length}
 use Rattle.std.specs.Option.{option_map_or}
 use Rattle.std.specs.Vec.{vec_capacity}
 use Rattle.std.proofs.lemmas.Option.{slice_get_read}
@@ -61,8 +60,3 @@ returns-clause-classes c =
     let at : slice_get classes k ≡ Some mark = slice_get_read classes (length classes) k mark refl inside c.index_mut-mark.ensures.value in
     ap (λ (o : Option Mark). slice_set classes k (record { ranking = option_map_or (λ m. m.ranking) o Unranked; issued = true })) (sym at)
     ∙ ap (λ (l : List Mark). with_issued l k) same
-
-pub returns-clause-few : goal.returns-clause-few
-returns-clause-few c =
-    let classes : List Mark = slice_set c.self.inside.classes.items (c.args.place - 1) (record { ranking = c.index_mut-mark.result.now.ranking; issued = true }) in
-    omega (arith, (invariant_of-self c).asked_count, count_by-le-length (λ (m : Mark). m.issued) classes)
