@@ -10,5 +10,5 @@ pub mod NewLemmas
 pub mod RankingLemmas
 pub mod NextTables
 pub mod NextKept
-pub mod ShortLemmas
 pub mod PartLemmas
+pub mod ShortLemmas
