@@ -94,7 +94,6 @@ starts_survey kept format criteria h = record {
     listed = h.listed;
     legal = λ k event at. absurd (none k event (rw h.empty at at));
     forms = rw h.empty (All-nil _);
-    few = rw h.empty (omega arith);
   };
   same_kind = refl;
   same_model = h.same_model;

@@ -112,6 +112,5 @@ adds_event old new line entry event form spelled room tells format listed histor
     forms =
         let P : Event → Type 0 = λ e. HasEntryForm old.format old.survey.listed.criteria (entry_of old.survey.listed.classes e) in
         rw (format, listed, history) (All-append P old.survey.history (event ∷ []) h.forms (All-cons P event [] (rw tells.told at form) (All-nil P)));
-    few = rw history (omega (arith, room, length-append old.survey.history (event ∷ [])));
   };
 }

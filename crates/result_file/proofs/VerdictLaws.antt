@@ -11,6 +11,7 @@ use Rattle.edges.proofs.LineLaws.{first_line-long, unlines-push}
 use Rattle.std.proofs.lemmas.Bool.{cases_lt}
 use Rattle.std.proofs.lemmas.List.{length-map}
 use Rattle.criteria_model.specs.Criteria.{Criteria}
+use Rattle.survey_core.proofs.ShortLemmas.{legal_is_short_lem}
 use Rattle.result_file.specs.Claims.{Claim}
 use Rattle.result_file.specs.declared.places.Place.{Place}
 use Rattle.result_file.specs.declared.places.Place.TheVariants as places
@@ -178,7 +179,7 @@ few_claims criteria claims h =
 
 few_in_body : (content : Content) → IsRightContent content → length (body_of content) ≤ most_lines
 few_in_body (of_claims criteria claims) h = omega (arith, few_claims criteria claims h, length-map claims claim_line)
-few_in_body (of_events format survey) h = omega (arith, h.few, length-map survey.history (event_line survey.listed.classes))
+few_in_body (of_events format survey) h = omega (arith, legal_is_short_lem survey.listed survey.history h.listed h.legal, length-map survey.history (event_line survey.listed.classes))
 
 few_lines : (lines : List (List ℕ)) (stage : Stage) → Says lines stage → length lines ≤ 131075
 few_lines lines blank h = rw h (omega arith)

@@ -18,12 +18,12 @@ use Rattle.result_file.specs.Events.{entry_of, Tells}
 use Rattle.result_file.specs.Parts.{part_of_broken}
 use Rattle.result_file.specs.Texts.{most_lines}
 
--- a model with its class list and a legal history of it, whose events may stand in a file of this format
+-- a model with its class list and a legal history of it, whose events may stand in a file of this format; so there are at most
+-- 131,072 of them
 pub record AreEvents (format : Format) (survey : Recorded) : Type 0 where
   pub listed : IsListed survey.listed
   pub legal : IsLegal survey.listed survey.history
   pub forms : All (λ event. HasEntryForm format survey.listed.criteria (entry_of survey.listed.classes event)) survey.history
-  pub few : length survey.history ≤ most_lines
 
 -- the pair of an Eliminate or an Issue isn't a class
 abbrev pub NamesNoClass : Criteria → Entry → Type 0
