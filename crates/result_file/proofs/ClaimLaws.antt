@@ -109,7 +109,7 @@ answer_line_takes criteria line answer m e =
     let t = answer_takes (length criteria.levels) line answer s.some s.most e in
     (t.0, pair_form criteria answer.pair t.1)
 
-answer_line_again : (criteria : Criteria) (answer : Answer) → IsModel criteria → HasForm criteria (answered answer) → answer_at (length criteria.levels) (claim_line (answered answer)) ≡ Some answer
+pub answer_line_again : (criteria : Criteria) (answer : Answer) → IsModel criteria → HasForm criteria (answered answer) → answer_at (length criteria.levels) (claim_line (answered answer)) ≡ Some answer
 answer_line_again criteria answer m h =
     let s = is_small criteria m in
     answer_again (length criteria.levels) answer s.some s.most (pair_read criteria answer.pair h)

@@ -269,7 +269,7 @@ step_takes format criteria line entry m e =
     ]
 
 -- an entry that is no elimination
-abbrev IsStep : Entry → Type 0
+abbrev pub IsStep : Entry → Type 0
 IsStep (Eliminate e) = ⊥
 IsStep _ = Unit {0}
 
@@ -285,7 +285,7 @@ step_again One criteria (Withdraw desk answer) m form step = absurd form
 step_again Two criteria (Withdraw desk answer) m form step = rw (withdraw_again desk answer form.0 form.1) refl
 
 -- the line of such an entry is no eliminate line
-no_elimination_at : (criteria steps : ℕ) (entry : Entry) → IsStep entry → elimination_at criteria steps (entry_line entry) ≡ None
+pub no_elimination_at : (criteria steps : ℕ) (entry : Entry) → IsStep entry → elimination_at criteria steps (entry_line entry) ≡ None
 unfolding elimination_at
 no_elimination_at criteria steps (Eliminate e) step = absurd step
 no_elimination_at criteria steps (Issue desk pair plus minus) step = refl

@@ -8,3 +8,10 @@ pub mod ContentLaws
 pub mod StageLaws
 pub mod VerdictLaws
 pub mod WorthLaws
+pub mod SplitLaws
+pub mod LengthLaws
+pub mod SpelledLaws
+pub mod EventOnce
+pub mod StepLaws
+pub mod FailLaws
+pub mod OneVerdict

@@ -1,4 +1,4 @@
--- No entry has a line end in its line.
+-- No line of a file has a line end within.
 use Rattle.std.proofs.Common.{◌≡◌, ◌≢◌, ℕ, suc, ◌+◌, ◌%◌, ◌<◌, ◌≤◌, ◌^◌, Bool, true, false, not, ◌==◌, List, [], ◌∷◌, ◌++◌, refl, arith, codes, ℤ, pos, negsuc}
 use Rattle.std.specs.List.{All, flat_map, list_all}
 use Rattle.std.specs.Fmt.{decimal, signed_decimal}
@@ -21,9 +21,13 @@ use Rattle.result_file.specs.declared.entries.Entry.{Entry}
 use Rattle.result_file.specs.declared.entries.Entry.TheVariants.{Eliminate, Issue, Commit, Close, Withdraw}
 use Rattle.result_file.specs.declared.entries.Format.{Format}
 use Rattle.result_file.specs.declared.entries.Format.TheVariants.{One, Two}
-use Rattle.result_file.specs.Forms.{HasPairForm, HasCombinationForm, HasEliminationForm}
+use Rattle.result_file.specs.declared.kinds.Kind.{Kind}
+use Rattle.result_file.specs.declared.kinds.Kind.TheVariants.{Claims, Result}
+use Rattle.result_file.specs.Claims.{Claim, answered, eliminated}
+use Rattle.result_file.specs.RightClaims.{HasForm}
+use Rattle.result_file.specs.Forms.{HasModelForm, HasPairForm, HasCombinationForm, HasEliminationForm}
 use Rattle.result_file.specs.Entries.{HasDeskForm, HasNumberForm, HasVectorForm, HasEntryForm}
-use Rattle.result_file.specs.Texts.{pair_text, side_text, ranking_text, cite_text, cites_text, combination_text, elimination_line, vector_text, vectors_text, numbers_text, entry_line}
+use Rattle.result_file.specs.Texts.{heading, end_line, model_line, answer_line, claim_line, pair_text, side_text, ranking_text, cite_text, cites_text, combination_text, elimination_line, vector_text, vectors_text, numbers_text, entry_line}
 
 abbrev is_inner : ℕ → Bool
 is_inner byte = not (byte == line_end)
@@ -151,7 +155,30 @@ entry_unbroken Two criteria (Withdraw desk answer) h =
 inner_is : (byte : ℕ) → is_inner byte ≡ true → byte ≢ line_end
 inner_is byte e = let other = not-true (byte == line_end) e in grind (arith, nat_tests)
 
+unbroken_is : (text : List ℕ) → is_unbroken text ≡ true → HasNoLineEnd text
+unbroken_is text h = let pass = AllPass-from_list_all is_inner text h in λ k d lt. inner_is _ (pass k d lt)
+
 pub HasNoLineEnd-entry_line : (format : Format) (criteria : Criteria) (entry : Entry) → HasEntryForm format criteria entry → HasNoLineEnd (entry_line entry)
 HasNoLineEnd-entry_line format criteria entry h =
-    let pass = AllPass-from_list_all is_inner (entry_line entry) (entry_unbroken format criteria entry h) in
-    λ k d lt. inner_is _ (pass k d lt)
+    unbroken_is (entry_line entry) (entry_unbroken format criteria entry h)
+
+pub HasNoLineEnd-claim_line : (criteria : Criteria) (claim : Claim) → HasForm criteria claim → HasNoLineEnd (claim_line claim)
+HasNoLineEnd-claim_line criteria (answered answer) h =
+    unbroken_is (answer_line answer) (two_unbroken (codes "answer ") (ranking_text answer) refl (ranking_unbroken criteria answer h))
+HasNoLineEnd-claim_line criteria (eliminated e) h = unbroken_is (elimination_line e) (elimination_unbroken criteria e h)
+
+pub HasNoLineEnd-model_line : (criteria : Criteria) → HasModelForm criteria → HasNoLineEnd (model_line criteria)
+HasNoLineEnd-model_line criteria h =
+    let levels = listed_unbroken decimal criteria.levels (λ k d lt. decimal_unbroken _ (omega (arith, h.levels k d lt))) in
+    let degree = decimal_unbroken criteria.degree (omega (arith, h.degree)) in
+    unbroken_is (model_line criteria)
+    (three_unbroken (codes "model " ++ listed decimal criteria.levels) (codes " degree ") (decimal criteria.degree)
+    (two_unbroken (codes "model ") (listed decimal criteria.levels) refl levels) refl degree)
+
+pub HasNoLineEnd-heading : (kind : Kind) → HasNoLineEnd (heading kind)
+HasNoLineEnd-heading Claims = unbroken_is (codes "paprika claims 1") refl
+HasNoLineEnd-heading (Result One) = unbroken_is (codes "paprika result 1") refl
+HasNoLineEnd-heading (Result Two) = unbroken_is (codes "paprika result 2") refl
+
+pub HasNoLineEnd-end_line : HasNoLineEnd end_line
+HasNoLineEnd-end_line = unbroken_is end_line refl

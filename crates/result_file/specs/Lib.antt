@@ -17,3 +17,4 @@ pub mod Places
 pub mod Stops
 pub mod Verdicts
 pub mod Words
+pub mod Laws

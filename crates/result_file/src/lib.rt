@@ -7,6 +7,7 @@ mod claims;
 mod eliminations;
 mod entries;
 mod kinds;
+pub mod laws;
 mod lines;
 mod places;
 mod stops;

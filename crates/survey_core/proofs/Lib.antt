@@ -10,4 +10,5 @@ pub mod NewLemmas
 pub mod RankingLemmas
 pub mod NextTables
 pub mod NextKept
+pub mod PartLemmas
 pub mod ShortLemmas

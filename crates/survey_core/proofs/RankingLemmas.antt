@@ -1,7 +1,6 @@
 -- The ranking of each class of a legal history, and of every pair that the class stands for.
-use Rattle.std.proofs.Common.{◌≡◌, ◌⊎◌, ◌↔◌, ℕ, zero, suc, ◌+◌, ◌-◌, ◌<◌, ◌≤◌, ◌==◌, Bool, true, false, ◌||◌, List, [], ◌∷◌, ◌++◌, length, take, get_or, Any, Option, Some, None, slice_get, ℤ, refl, ap, sym, subst, ◌∙◌, inl, inr, arith, append-nil}
+use Rattle.std.proofs.Common.{◌≡◌, ◌⊎◌, ℕ, zero, suc, ◌+◌, ◌-◌, ◌<◌, ◌==◌, true, false, List, [], ◌∷◌, ◌++◌, length, take, get_or, Option, Some, None, slice_get, ℤ, refl, ap, sym, subst, ◌∙◌, inl, inr, arith, append-nil}
 use Rattle.std.specs.Option.{option_map_or}
-use Rattle.std.specs.List.{list_any}
 use Rattle.std.proofs.Math.Seq.{take-append_seam}
 use Rattle.std.proofs.lemmas.Bool.{eqb-true, eq-eqb, or_cases, or_left, or_right}
 use Rattle.std.proofs.lemmas.Int.{ints}
@@ -12,21 +11,20 @@ use Rattle.criteria_model.specs.declared.pairs.Pair.{Pair}
 use Rattle.criteria_model.specs.declared.pairs.Answer.{Answer}
 use Rattle.criteria_model.specs.declared.pairs.Side.{Side}
 use Rattle.criteria_model.specs.declared.pairs.Side.TheVariants.{Left, Right, Equal}
-use Rattle.criteria_model.specs.Answers.{Ranks, Meets, MeetsAll, IsSatisfiable, IsRanked, turned_side}
+use Rattle.criteria_model.specs.Answers.{Ranks, Meets, IsSatisfiable, IsRanked, turned_side}
 use Rattle.criteria_model.proofs.GainLemmas.{replicas_rank_same_lem}
-use Rattle.farkas_check.specs.declared.combination.Combination.{Combination}
 use Rattle.farkas_check.specs.Proof.{Proves}
 use Rattle.farkas_check.proofs.Ranking.{proved_is_ranked_lem}
 use Rattle.pair_enumeration.specs.declared.flips.Flip.{Flip}
 use Rattle.pair_enumeration.specs.declared.flips.Flip.TheVariants.{Kept, Turned}
-use Rattle.pair_enumeration.specs.Listed.{Listed, IsListed}
-use Rattle.pair_enumeration.specs.Places.{flipped, IsPlaceOf}
+use Rattle.pair_enumeration.specs.Listed.{Listed}
+use Rattle.pair_enumeration.specs.Places.{flipped}
 use Rattle.pair_enumeration.proofs.PlaceLaws.{each_pair_has_place_lem}
 use Rattle.survey_core.specs.declared.events.Event.{Event}
 use Rattle.survey_core.specs.declared.events.Event.TheVariants.{Eliminate, Issue, Commit, Close, Withdraw}
 use Rattle.survey_core.specs.Kinds.{eliminates}
-use Rattle.survey_core.specs.Histories.{standing, issued, place_of, class_at, committed, commits_class, is_eliminated, is_committed, is_ranked}
-use Rattle.survey_core.specs.Legal.{IsPlace, MayEliminate, IsLegal}
+use Rattle.survey_core.specs.Histories.{standing, issued, place_of, class_at, committed, commits_class, is_eliminated, is_committed}
+use Rattle.survey_core.specs.Legal.{MayEliminate, IsLegal}
 use Rattle.survey_core.specs.Laws.{last_point, Gives, HasRanking, flipped_side, AnswersAreSatisfiable, EliminatedAreRanked, RankedHasRanking, EachHasOneRanking, RankingsAreByAnswers, ClassRanksPairs, CompleteRanksEveryPair}
 use Rattle.survey_core.specs.Marked.{rests_on, Resting, numbered}
 use Rattle.survey_core.proofs.ListSteps.{Each, some_and}
@@ -123,20 +121,17 @@ at_event P before (first ∷ later) each zero event at =
 at_event P before (first ∷ later) each (suc k) event at = at_event P (before + step first) later each.1 k event at
 
 module _ (listed : Listed) (asked : List ℕ) (answers : List Answer) where
-  abbrev levels : List ℕ
-  levels = listed.criteria.levels
-
   -- the place has a class, and the answers rank it so
   abbrev pub RankedAt : ℕ → Side → Type 0
-  RankedAt place side = (pair : Pair) × (class_at listed.classes place ≡ Some pair) × IsRanked levels answers pair side
+  RankedAt place side = (pair : Pair) × (class_at listed.classes place ≡ Some pair) × IsRanked listed.criteria.levels answers pair side
 
   given_ranked : (level place : ℕ) (side : Side) (event : Event) → IsSoundAt listed asked answers level event → Gives asked place event side → RankedAt place side
   given_ranked level place side (Eliminate worker other verdict combination) s g = (
     s.pair,
     ap (λ k. class_at listed.classes k) (sym g.0) ∙ s.class,
     λ values meets.
-        subst (λ (t : Side). Ranks levels values s.pair t) g.1
-        (s.ranked values (record { vector = meets.vector; each = All-take (Meets levels values) level answers meets.each })),
+        subst (λ (t : Side). Ranks listed.criteria.levels values s.pair t) g.1
+        (s.ranked values (record { vector = meets.vector; each = All-take (Meets listed.criteria.levels values) level answers meets.each })),
   )
   given_ranked level place side (Issue desk other plus minus) s g = absurd g
   given_ranked level place side (Commit desk question chosen plus minus point) s g =
@@ -146,8 +141,8 @@ module _ (listed : Listed) (asked : List ℕ) (answers : List Answer) where
         s.pair,
         ap (λ k. class_at listed.classes k) (sym same) ∙ s.class,
         λ values meets.
-            subst (λ (t : Side). Ranks levels values s.pair t) g.1
-            (subst (λ (a : Answer). Meets levels values a) at
+            subst (λ (t : Side). Ranks listed.criteria.levels values s.pair t) g.1
+            (subst (λ (a : Answer). Meets listed.criteria.levels values a) at
             (meets.each (level - 1) given (slice_get_within answers (level - 1) given s.answer))),
       )
   given_ranked level place side (Close desk question) s g = absurd g

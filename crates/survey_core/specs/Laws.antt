@@ -12,10 +12,12 @@ use Rattle.pair_enumeration.specs.declared.flips.Flip.{Flip}
 use Rattle.pair_enumeration.specs.declared.flips.Flip.TheVariants.{Kept, Turned}
 use Rattle.pair_enumeration.specs.Listed.{Listed, IsListed}
 use Rattle.pair_enumeration.specs.Places.{NeedsQuestion, IsPlaceOf}
+use Rattle.survey_core.specs.declared.broken.Broken.{Broken}
 use Rattle.survey_core.specs.declared.events.Event.{Event}
 use Rattle.survey_core.specs.declared.events.Event.TheVariants.{Eliminate, Commit}
 use Rattle.survey_core.specs.Histories.{standing, issued, place_of, committed, class_at, is_ranked}
-use Rattle.survey_core.specs.Legal.{IsPlace, IsLegal}
+use Rattle.survey_core.specs.Legal.{IsPlace, MayFollow, IsLegal}
+use Rattle.survey_core.specs.Verdicts.{FailsFirst}
 
 -- the point of a Commit
 abbrev pub point_of : Event → Option (List ℤ)
@@ -119,3 +121,15 @@ RanksEveryPair listed history =
 abbrev pub CompleteRanksEveryPair : Type 0
 CompleteRanksEveryPair =
     (listed : Listed) (history : List Event) → IsListed listed → IsLegal listed history → IsComplete listed history → RanksEveryPair listed history
+
+-- an event lacks one first part at most
+abbrev pub OneFirstPart : Type 0
+OneFirstPart =
+    (listed : Listed) (history : List Event) (event : Event) (one other : Broken)
+    → FailsFirst listed history event one → FailsFirst listed history event other → one ≡ other
+
+-- an event that may follow lacks none
+abbrev pub AllowedLacksNone : Type 0
+AllowedLacksNone =
+    (listed : Listed) (history : List Event) (event : Event) (part : Broken)
+    → MayFollow listed history event → ¬ FailsFirst listed history event part

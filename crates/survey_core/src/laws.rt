@@ -1,5 +1,5 @@
 //! Laws of legal histories. Each function does nothing; its contract is the law.
-ghost use Rattle.survey_core.specs.Laws.{IsShort, LastPointMeets, AnswersAreSatisfiable, RankedByAnswers, EliminatedAreRanked, RankedHasRanking, EachHasOneRanking, RankingsAreByAnswers, ClassRanksPairs, CompleteRanksEveryPair};
+ghost use Rattle.survey_core.specs.Laws.{IsShort, LastPointMeets, AnswersAreSatisfiable, RankedByAnswers, EliminatedAreRanked, RankedHasRanking, EachHasOneRanking, RankingsAreByAnswers, ClassRanksPairs, CompleteRanksEveryPair, OneFirstPart, AllowedLacksNone};
 
 /// The point of the last standing commit, or all ones, meets the answers of a legal history.
 pub fn last_point_meets()
@@ -49,4 +49,14 @@ pub fn class_ranks_pairs()
 /// Where an event ranks each class, every undominated pair within the degree limit has its class's ranking by the answers.
 pub fn complete_ranks_every_pair()
     ensures { CompleteRanksEveryPair }
+{}
+
+/// An event lacks one first part at most.
+pub fn one_first_part()
+    ensures { OneFirstPart }
+{}
+
+/// An event that may follow lacks none.
+pub fn allowed_lacks_none()
+    ensures { AllowedLacksNone }
 {}
