@@ -1,5 +1,5 @@
 -- What a `Core` keeps, after one more event.
-use Rattle.std.proofs.Common.{◌≡◌, ◌⊎◌, ℕ, ◌+◌, ◌-◌, ◌*◌, ◌<◌, ◌≤◌, ◌==◌, Bool, true, false, cond, not, ◌||◌, List, [], ◌∷◌, ◌++◌, length, take, map, Option, Some, None, slice_get, slice_set, ℤ, append-nil, length-append, length-take, refl, ap, sym, subst, ◌∙◌, inl, inr, arith}
+use Rattle.std.proofs.Common.{◌≡◌, ℕ, ◌+◌, ◌-◌, ◌*◌, ◌<◌, ◌≤◌, ◌==◌, Bool, true, false, cond, not, ◌||◌, List, [], ◌∷◌, ◌++◌, length, take, map, Option, Some, slice_get, slice_set, ℤ, append-nil, length-append, length-take, refl, ap, sym, subst, ◌∙◌, inl, inr, arith}
 use Rattle.std.specs.Option.{option_map_or, option_and_then, option_map}
 use Rattle.std.specs.List.{list_any, count_by, cons_option}
 use Rattle.std.proofs.lemmas.Bool.{cases_lt, eq-eqb, eqb-true}
@@ -25,11 +25,11 @@ use Rattle.survey_core.specs.declared.marks.Ending.TheVariants.{Open, Committed,
 use Rattle.survey_core.specs.declared.marks.Mark.{Mark}
 use Rattle.survey_core.specs.declared.marks.Question.{Question}
 use Rattle.survey_core.specs.Kinds.{is_withdraw}
-use Rattle.survey_core.specs.Histories.{standing, issued, is_issued, place_of, class_at, class_of, answer_of, committed, commits_class, ends, is_unended, IsOpenQuestion, is_eliminated, is_committed, is_ranked, withdrawals}
+use Rattle.survey_core.specs.Histories.{standing, issued, is_issued, place_of, class_at, class_of, committed, commits_class, ends, is_unended, IsOpenQuestion, is_eliminated, is_committed, is_ranked, withdrawals}
 use Rattle.survey_core.specs.Legal.{IsEvent, IsPlace, MayEliminate, MayIssue, MayCommit, MayClose, MayWithdraw, MayFollow, IsLegal, IsSpent}
 use Rattle.survey_core.specs.Marked.{greatest_cited, Table, numbered, is_ranking, is_open, is_ranked_mark, is_open_mark, is_number_up_to, is_answer_up_to, with_ranking, with_issued, with_ending, left_mark, left_question, IsTableOf, IsKept}
 use Rattle.survey_core.proofs.ListSteps.{Each, slice_get_inside, slice_get-push, take_whole, filtered_range, at_some}
-use Rattle.survey_core.proofs.StandingLemmas.{standing-push, step}
+use Rattle.survey_core.proofs.StandingLemmas.{standing-push}
 use Rattle.survey_core.proofs.SoundLemmas.{IsSoundAt, IsSound, sound_history, committed-push, committed-issue, committed-withdraw}
 use Rattle.survey_core.proofs.TableLemmas.{count_set, count_less, one_if}
 use Rattle.survey_core.proofs.KeptLemmas.{mark_at, ranked_at, found_at, asks_at, unended_at, issued_len, place_at, or_either, or_left, or_right}

@@ -8,12 +8,19 @@ use farkas_check::Cite;
 use std::process::Abort;
 use std::test::Fail;
 
+// What becomes of question 2, which asks class 2.
+const NEVER: QuestionState = QuestionState::Never;
+
+const OPEN: QuestionState = QuestionState::Live { place: 2 };
+
+const GONE: QuestionState = QuestionState::Gone { place: 2 };
+
 /// What a core is to say.
 #[derive(Clone, Copy)]
 struct Expected {
     /// The places of the ranked classes.
     ranked: &'static [u32],
-    open: u32,
+    open_questions: u32,
     /// What became of question 2.
     second: QuestionState,
     answers: u32,
@@ -37,14 +44,14 @@ fn refused(event: Event, part: Broken) -> Row {
 
 fn after(
     ranked: &'static [u32],
-    open: u32,
+    open_questions: u32,
     second: QuestionState,
     answers: u32,
     withdrawals: u32,
 ) -> Expected {
     Expected {
         ranked,
-        open,
+        open_questions,
         second,
         answers,
         withdrawals,
@@ -168,7 +175,7 @@ fn is_combination(model: &Model, combination: &Combination) -> bool
         && combination.scale.unsigned_abs() < 1 << 96
 }
 
-/// Appends the event where it may follow.
+/// Puts the event at the end where it may follow.
 fn offer(rt: &impl Abort, core: &mut Core, event: &Event) -> Result<(), Broken> {
     let model = core.model();
     assert!(rt; is_event(&model, event));
@@ -177,6 +184,7 @@ fn offer(rt: &impl Abort, core: &mut Core, event: &Event) -> Result<(), Broken> 
     Ok(())
 }
 
+/// That the core says this.
 fn expect(rt: &impl Abort, core: &Core, expected: &Expected) {
     let classes = core.model().class_count();
     for place in 1..=classes {
@@ -186,7 +194,7 @@ fn expect(rt: &impl Abort, core: &Core, expected: &Expected) {
         core.all_ranked(),
         expected.ranked.len() == classes as usize
     );
-    assert_eq!(rt; core.open_questions(), expected.open);
+    assert_eq!(rt; core.open_questions(), expected.open_questions);
     assert_eq!(rt; core.question(2), expected.second);
     assert_eq!(rt; core.answers().len(), expected.answers);
     assert_eq!(rt; core.withdrawals(), expected.withdrawals);
@@ -210,9 +218,9 @@ fn run(rt: &impl Abort, alloc: Global, rows: &[Row]) -> Result<(), Fail> {
     Ok(())
 }
 
-/// Nothing stands yet, and every place is that of its class.
+/// A core has the classes of its model, each at its place.
 #[test]
-fn empty_history(rt: HostRuntime) -> Result<(), Fail> {
+fn classes_and_places(rt: HostRuntime) -> Result<(), Fail> {
     let model = Model::new(&[2, 2, 2], 3).ok().ok_or("model")?;
     let core = Core::new(rt.alloc(), &model)?;
     assert!(rt; core.model() == model);
@@ -233,12 +241,6 @@ fn empty_history(rt: HostRuntime) -> Result<(), Fail> {
     assert_eq!(rt; core.place(&turned), None);
     Ok(())
 }
-
-const NEVER: QuestionState = QuestionState::Never;
-
-const OPEN: QuestionState = QuestionState::Live { place: 2 };
-
-const GONE: QuestionState = QuestionState::Gone { place: 2 };
 
 /// A withdrawal takes back an answer, the elimination that rests on it, and the close of a question, which can then be
 /// answered.

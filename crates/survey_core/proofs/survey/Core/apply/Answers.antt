@@ -1,9 +1,8 @@
-use Rattle.std.proofs.Common.{◌≡◌, ℕ, ◌+◌, ◌-◌, ◌≤◌, refl, ap, sym, ◌∙◌, slice_get, List, length, map, arith}
+use Rattle.std.proofs.Common.{ℕ, ◌+◌, ◌-◌, refl, ap, sym, ◌∙◌, slice_get, List, length, arith}
 use Rattle.std.proofs.lemmas.List.{length-map}
-use Rattle.survey_core.specs.declared.marks.Ranking.TheVariants.{Eliminated, Committed as CommittedBy}
+use Rattle.survey_core.specs.declared.marks.Ranking.TheVariants.{Eliminated}
 use Rattle.survey_core.specs.declared.marks.Ending.TheVariants.{Closed, Committed}
 use Rattle.survey_core.specs.declared.marks.Question.{Question}
-use Rattle.survey_core.specs.Legal.{MayEliminate, MayIssue, MayCommit, MayClose, MayWithdraw}
 use Rattle.survey_core.specs.Marked.{with_ranking, with_ending}
 use Rattle.survey_core.proofs.LawLemmas.{last_point_meets_lem}
 use Rattle.survey_core.proofs.NextKept.{room_next, unranked_mark, unissued_mark, asked_within, open_mark, kept_eliminate, kept_issue, kept_close, kept_withdraw, asked_class, asked_within_marks, asked_unranked, commit_room, kept_commit_at, may_in, is_in, pushed_in, kept_as}
@@ -21,8 +20,7 @@ push_reserved-requires c =
 -- ---- Eliminate
 pub rank-requires-clause-before : goal.rank-requires-clause-before
 rank-requires-clause-before c mark at =
-    let may : MayEliminate _ _ c.in-Eliminate.place c.in-Eliminate.verdict c.in-Eliminate.combination = may_in c.self.view_is c.in-Eliminate.is c.requires.allowed in
-    unranked_mark _ _ _ _ _ _ c.self.invariant c.in-Eliminate.place mark may.class may.unranked at
+    unranked_mark _ _ _ _ _ _ c.self.invariant c.in-Eliminate.place mark (may_in c.self.view_is c.in-Eliminate.is c.requires.allowed).class (may_in c.self.view_is c.in-Eliminate.is c.requires.allowed).unranked at
 
 pub invariant_of-self : goal.invariant_of-self
 invariant_of-self c =
@@ -43,8 +41,7 @@ returns-in-Eliminate-clause-met c = last_point_meets_lem _ _ (invariant_of-self 
 -- ---- Issue
 pub issue-requires-clause-before : goal.issue-requires-clause-before
 issue-requires-clause-before c mark at =
-    let may : MayIssue _ _ c.in-Issue.place c.in-Issue.plus c.in-Issue.minus = may_in c.self.view_is c.in-Issue.is c.requires.allowed in
-    unissued_mark _ _ _ _ _ _ c.self.invariant c.in-Issue.place mark may.class may.unasked at
+    unissued_mark _ _ _ _ _ _ c.self.invariant c.in-Issue.place mark (may_in c.self.view_is c.in-Issue.is c.requires.allowed).class (may_in c.self.view_is c.in-Issue.is c.requires.allowed).unasked at
 
 pub invariant_of-self-in-Issue : goal.invariant_of-self-in-Issue
 invariant_of-self-in-Issue c =
@@ -63,15 +60,11 @@ returns-in-Issue-clause-met c = last_point_meets_lem _ _ (invariant_of-self-in-I
 -- ---- Commit
 pub asked_place-place-requires-clause-low : goal.asked_place-place-requires-clause-low
 asked_place-place-requires-clause-low c =
-    let may : MayCommit _ _ c.in-Commit.question c.in-Commit.side c.in-Commit.plus c.in-Commit.minus c.in-Commit.point =
-    may_in c.self.view_is c.in-Commit.is c.requires.allowed in
-    (asked_within _ _ _ _ _ _ c.self.invariant c.in-Commit.question may.open_question).0
+    (asked_within _ _ _ _ _ _ c.self.invariant c.in-Commit.question (may_in c.self.view_is c.in-Commit.is c.requires.allowed).open_question).0
 
 pub asked_place-place-requires-clause-high : goal.asked_place-place-requires-clause-high
 asked_place-place-requires-clause-high c =
-    let may : MayCommit _ _ c.in-Commit.question c.in-Commit.side c.in-Commit.plus c.in-Commit.minus c.in-Commit.point =
-    may_in c.self.view_is c.in-Commit.is c.requires.allowed in
-    (asked_within _ _ _ _ _ _ c.self.invariant c.in-Commit.question may.open_question).1
+    (asked_within _ _ _ _ _ _ c.self.invariant c.in-Commit.question (may_in c.self.view_is c.in-Commit.is c.requires.allowed).open_question).1
 
 pub class-pair-requires-clause-low : goal.class-pair-requires-clause-low
 class-pair-requires-clause-low c = (asked_class _ _ _ _ _ _ c.self.invariant c.in-Commit.question c.asked_place-place.result c.asked_place-place.ensures).0
@@ -97,21 +90,15 @@ rank-requires-in-Commit-clause-before c mark at =
 
 pub end-requires-clause-low : goal.end-requires-clause-low
 end-requires-clause-low c =
-    let may : MayCommit _ _ c.in-Commit.question c.in-Commit.side c.in-Commit.plus c.in-Commit.minus c.in-Commit.point =
-    may_in c.self.view_is c.in-Commit.is c.requires.allowed in
-    (asked_within _ _ _ _ _ _ c.self.invariant c.in-Commit.question may.open_question).0
+    (asked_within _ _ _ _ _ _ c.self.invariant c.in-Commit.question (may_in c.self.view_is c.in-Commit.is c.requires.allowed).open_question).0
 
 pub end-requires-clause-high : goal.end-requires-clause-high
 end-requires-clause-high c =
-    let may : MayCommit _ _ c.in-Commit.question c.in-Commit.side c.in-Commit.plus c.in-Commit.minus c.in-Commit.point =
-    may_in c.self.view_is c.in-Commit.is c.requires.allowed in
-    omega (arith, (asked_within _ _ _ _ _ _ c.self.invariant c.in-Commit.question may.open_question).1, ap (λ (l : List Question). length l) c.rank-in-Commit.ensures.questions)
+    omega (arith, (asked_within _ _ _ _ _ _ c.self.invariant c.in-Commit.question (may_in c.self.view_is c.in-Commit.is c.requires.allowed).open_question).1, ap (λ (l : List Question). length l) c.rank-in-Commit.ensures.questions)
 
 pub end-requires-clause-before : goal.end-requires-clause-before
 end-requires-clause-before c question at =
-    let may : MayCommit _ _ c.in-Commit.question c.in-Commit.side c.in-Commit.plus c.in-Commit.minus c.in-Commit.point =
-    may_in c.self.view_is c.in-Commit.is c.requires.allowed in
-    open_mark _ _ _ _ _ _ c.self.invariant c.in-Commit.question question may.open_question
+    open_mark _ _ _ _ _ _ c.self.invariant c.in-Commit.question question (may_in c.self.view_is c.in-Commit.is c.requires.allowed).open_question
     (ap (λ (l : List Question). slice_get l (c.in-Commit.question - 1)) (sym c.rank-in-Commit.ensures.questions) ∙ at)
 
 pub invariant_of-self-in-Commit : goal.invariant_of-self-in-Commit
@@ -136,18 +123,15 @@ returns-in-Commit-clause-met c = last_point_meets_lem _ _ (invariant_of-self-in-
 -- ---- Close
 pub end-requires-in-Close-clause-low : goal.end-requires-in-Close-clause-low
 end-requires-in-Close-clause-low c =
-    let may : MayClose _ c.in-Close.question = may_in c.self.view_is c.in-Close.is c.requires.allowed in
-    (asked_within _ _ _ _ _ _ c.self.invariant c.in-Close.question may.open_question).0
+    (asked_within _ _ _ _ _ _ c.self.invariant c.in-Close.question (may_in c.self.view_is c.in-Close.is c.requires.allowed).open_question).0
 
 pub end-requires-in-Close-clause-high : goal.end-requires-in-Close-clause-high
 end-requires-in-Close-clause-high c =
-    let may : MayClose _ c.in-Close.question = may_in c.self.view_is c.in-Close.is c.requires.allowed in
-    (asked_within _ _ _ _ _ _ c.self.invariant c.in-Close.question may.open_question).1
+    (asked_within _ _ _ _ _ _ c.self.invariant c.in-Close.question (may_in c.self.view_is c.in-Close.is c.requires.allowed).open_question).1
 
 pub end-requires-in-Close-clause-before : goal.end-requires-in-Close-clause-before
 end-requires-in-Close-clause-before c question at =
-    let may : MayClose _ c.in-Close.question = may_in c.self.view_is c.in-Close.is c.requires.allowed in
-    open_mark _ _ _ _ _ _ c.self.invariant c.in-Close.question question may.open_question at
+    open_mark _ _ _ _ _ _ c.self.invariant c.in-Close.question question (may_in c.self.view_is c.in-Close.is c.requires.allowed).open_question at
 
 pub invariant_of-self-in-Close : goal.invariant_of-self-in-Close
 invariant_of-self-in-Close c =
