@@ -1,5 +1,5 @@
 -- What a status, and what was written, say of the file.
-use Rattle.std.proofs.Common.{◌≡◌, ℕ, ◌+◌, ◌<◌, ◌≤◌, List, [], ◌∷◌, ◌++◌, length, take, zero, suc, ap, sym, subst, ◌∙◌, arith, inl, inr, length-append, length-take}
+use Rattle.std.proofs.Common.{◌≡◌, ℕ, ◌<◌, List, ◌∷◌, ◌++◌, length, take, zero, suc, ap, sym, subst, ◌∙◌, arith, inl, inr, length-append, length-take}
 use Rattle.std.specs.Prelude.{Option, Some, None, IfSome}
 use Rattle.std.specs.Io.KnownBytes.{append_known}
 use Rattle.std.proofs.Math.Seq.{take-length}
@@ -34,9 +34,9 @@ proved_at_0 source source_now sink sink_now status h at_zero = proved_by h.verdi
 
 -- ---- the line `valid complete`
 
-settled : (told : Option (List ℕ)) → IfSome told (λ text. IsWorth text ValidComplete) → IsSettled told
-settled None worth = tt
-settled (Some text) worth = worth.1
+settled : (told : Option (List ℕ)) → IsToldChecked told ValidComplete → IfSome told (λ text. IsWorth text ValidComplete) → IsSettled told
+settled None checked worth = tt
+settled (Some text) checked worth = (checked.0, checked.1, worth.1 checked.0 checked.1)
 
 -- what was put behind a text
 put_behind : (before now : Option (List ℕ)) (text full line : List ℕ) → before ≡ Some text → now ≡ Some (text ++ full) → Appends before now line → line ≡ full
@@ -69,18 +69,18 @@ nothing_written before now same says =
     let both : says.0 ≡ says.0 ++ verdict_line ValidComplete = cc in
     omega (arith, ap length both, length-append says.0 (verdict_line ValidComplete))
 
-settled_by : (verdict : Checked) (told : Option (List ℕ)) (before now : SinkState) (status : ℕ) → IfSome told (λ text. IsWorth text verdict) → Answers verdict before now status → SaysComplete before now → IsSettled told
-settled_by Valid told before now status worth answered says =
+settled_by : (verdict : Checked) (told : Option (List ℕ)) (before now : SinkState) (status : ℕ) → IsToldChecked told verdict → IfSome told (λ text. IsWorth text verdict) → Answers verdict before now status → SaysComplete before now → IsSettled told
+settled_by Valid told before now status checked worth answered says =
     let f = front_written before now (verdict_line Valid) 0 status says answered in absurd (not_valid f.0 f.1)
-settled_by ValidComplete told before now status worth answered says = settled told worth
-settled_by (Invalid line part) told before now status worth answered says =
+settled_by ValidComplete told before now status checked worth answered says = settled told checked worth
+settled_by (Invalid line part) told before now status checked worth answered says =
     let f = front_written before now (verdict_line (Invalid line part)) 1 status says answered in
     absurd (not_first f.0 105 _ (omega arith) f.1)
-settled_by (Unfinished line) told before now status worth answered says =
+settled_by (Unfinished line) told before now status checked worth answered says =
     let f = front_written before now (verdict_line (Unfinished line)) 1 status says answered in
     absurd (not_first f.0 117 _ (omega arith) f.1)
-settled_by ReadFault told before now status worth answered says = absurd (nothing_written before now answered.written says)
-settled_by NoMemory told before now status worth answered says = absurd (nothing_written before now answered.written says)
+settled_by ReadFault told before now status checked worth answered says = absurd (nothing_written before now answered.written says)
+settled_by NoMemory told before now status checked worth answered says = absurd (nothing_written before now answered.written says)
 
 pub settled_at_complete : (source source_now : SourceState) (sink sink_now : SinkState) (status : ℕ) → ChecksFile source source_now sink sink_now status → SaysComplete sink sink_now → IsSettled source.left
-settled_at_complete source source_now sink sink_now status h says = settled_by h.verdict source.left sink sink_now status h.worth h.answered says
+settled_at_complete source source_now sink sink_now status h says = settled_by h.verdict source.left sink sink_now status h.checked h.worth h.answered says

@@ -11,7 +11,7 @@ use Rattle.result_file.specs.Words.{part_text}
 use Rattle.result_file.specs.Verdicts.{CountsFault, EndsInput}
 use Rattle.result_file.specs.Checked.{IsFileOf, IsToldChecked}
 use Rattle.result_file.specs.Contents.{Content}
-use Rattle.result_file.specs.Worth.{EliminatedAreRanked, IsSettledFile, IsWorth}
+use Rattle.result_file.specs.Worth.{EliminatedAreRanked, SettlesAll, IsWorth}
 
 -- the words are the one word `check`
 abbrev pub IsCheck : List (String Global) → Type 0
@@ -85,4 +85,4 @@ SaysComplete before now =
 
 -- where it is told, the text is the valid file of a survey that settles every pair
 abbrev pub IsSettled : Option (List ℕ) → Type 0
-IsSettled told = IfSome told IsSettledFile
+IsSettled told = IfSome told (λ text. (content : Content) × IsFileOf content text × SettlesAll content)

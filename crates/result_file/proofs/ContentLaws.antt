@@ -1,13 +1,12 @@
 -- What one more line does to the content of a file.
-use Rattle.std.proofs.Common.{◌≡◌, ◌≢◌, ℕ, ◌<◌, ◌≤◌, List, [], ◌∷◌, ◌++◌, length, map, refl, sym, ap, subst, ◌∙◌, arith, Some, ◌⊎◌, inl, inr}
-use Rattle.std.specs.Prelude.{Option, None, All, slice_get}
+use Rattle.std.proofs.Common.{◌≡◌, ◌≢◌, ℕ, List, [], ◌∷◌, ◌++◌, refl, sym, ap, subst, ◌∙◌, Some, ◌⊎◌, inl, inr}
+use Rattle.std.specs.Prelude.{slice_get}
 use Rattle.std.proofs.lemmas.List.{map_push}
 use Rattle.std.proofs.lemmas.List.Elements.{All-nil}
 use Rattle.criteria_model.specs.Criteria.{Criteria, IsModel}
 use Rattle.survey_core.specs.declared.events.Event.{Event}
 use Rattle.survey_core.specs.Laws.{IsComplete}
 use Rattle.survey_core.specs.Recorded.{Recorded}
-use Rattle.result_file.specs.declared.bodies.Body.{Body}
 use Rattle.result_file.specs.declared.bodies.Body.TheVariants as bodies
 use Rattle.result_file.specs.declared.entries.Format.{Format}
 use Rattle.result_file.specs.declared.kinds.Kind.TheVariants as kinds
@@ -16,14 +15,13 @@ use Rattle.result_file.specs.declared.verdicts.Part.{Part}
 use Rattle.result_file.specs.Bodies.{Keeps, Starts, Adds}
 use Rattle.result_file.specs.Checked.{begun, Fails}
 use Rattle.result_file.specs.Claims.{Claim}
-use Rattle.result_file.specs.Contents.{Content, of_claims, of_events, IsRightContent, IsCompleteContent, lines_of}
-use Rattle.result_file.specs.Entries.{HasEntryForm}
-use Rattle.result_file.specs.Events.{entry_of, event_line}
+use Rattle.result_file.specs.Contents.{Content, of_claims, of_events, IsCompleteContent}
+use Rattle.result_file.specs.Events.{event_line}
 use Rattle.result_file.specs.Kept.{KeptClaims, KeepsClaims, AddsClaim, KeptSurvey, StartsSurvey, AddsEvent}
 use Rattle.result_file.specs.RightClaims.{IsRight, AreClaims}
 use Rattle.result_file.specs.RightEvents.{AreEvents}
 use Rattle.result_file.specs.Stops.{StopsAt}
-use Rattle.result_file.specs.Texts.{heading, model_line, claim_line, end_line}
+use Rattle.result_file.specs.Texts.{claim_line, end_line}
 
 -- ---- claims that grow
 

@@ -1,22 +1,19 @@
 -- What the line of an event does to the history before it.
-use Rattle.std.proofs.Common.{◌≡◌, ◌≢◌, ℕ, ◌+◌, ◌-◌, ◌<◌, ◌≤◌, List, [], ◌∷◌, ◌++◌, length, refl, sym, ap, subst, ◌∙◌, arith, length-append, Some, None}
-use Rattle.std.specs.Prelude.{Option, All}
+use Rattle.std.proofs.Common.{◌≡◌, ◌≢◌, ℕ, ◌-◌, ◌<◌, ◌≤◌, List, [], ◌∷◌, ◌++◌, length, refl, ap, ◌∙◌, arith, None}
 use Rattle.std.proofs.lemmas.List.Elements.{All-nil, All-cons, All-append}
 use Rattle.std.proofs.lemmas.Option.{slice_get_within}
 use Rattle.criteria_model.specs.declared.pairs.Pair.{Pair}
-use Rattle.criteria_model.specs.Criteria.{Criteria}
-use Rattle.pair_enumeration.specs.Listed.{Listed, IsListed}
+use Rattle.pair_enumeration.specs.Listed.{Listed}
 use Rattle.pair_enumeration.specs.Places.{StandsAt}
 use Rattle.survey_core.specs.declared.events.Event.{Event}
 use Rattle.survey_core.specs.declared.events.Event.TheVariants as events
 use Rattle.survey_core.specs.declared.broken.Broken.{Broken}
 use Rattle.survey_core.specs.declared.broken.Broken.TheVariants as broken
 use Rattle.farkas_check.specs.declared.flaws.Flaw.TheVariants as flaws
-use Rattle.survey_core.specs.Legal.{IsPlace, IsEvent, IsLegal}
+use Rattle.survey_core.specs.Legal.{IsEvent, IsLegal}
 use Rattle.survey_core.specs.Recorded.{Recorded}
 use Rattle.survey_core.specs.Verdicts.{FailsFirst}
 use Rattle.result_file.specs.declared.entries.Entry.{Entry}
-use Rattle.result_file.specs.declared.entries.Entry.TheVariants as entries
 use Rattle.result_file.specs.declared.entries.Format.{Format}
 use Rattle.result_file.specs.declared.entries.Format.TheVariants.{One, Two}
 use Rattle.result_file.specs.declared.verdicts.Part.{Part}
@@ -24,10 +21,10 @@ use Rattle.result_file.specs.declared.verdicts.Part.TheVariants.{Form, Limit, Cl
 use Rattle.result_file.specs.Checked.{begun, Fails}
 use Rattle.result_file.specs.Contents.{of_events}
 use Rattle.result_file.specs.Entries.{HasEntryForm, ReadsEntry}
-use Rattle.result_file.specs.Events.{pair_at, entry_of, NamesClass, Tells, event_line}
+use Rattle.result_file.specs.Events.{pair_at, entry_of, NamesClass, Tells}
 use Rattle.result_file.specs.Kept.{KeptSurvey, AddsEvent}
 use Rattle.result_file.specs.Parts.{part_of_broken}
-use Rattle.result_file.specs.RightEvents.{AreEvents, NamesNoClass, BreaksRule, EntryFailsAs}
+use Rattle.result_file.specs.RightEvents.{NamesNoClass, EntryFailsAs}
 use Rattle.result_file.specs.Texts.{most_lines, end_line, entry_line}
 
 -- ---- the class of an entry

@@ -150,16 +150,26 @@ combination_most criteria c m h =
     certificates_most c.increments (omega (arith, h.len, small.most_increments)) h.weights in
     let cites : length (cites_text c.answers) ≤ 912 =
     cites_most c.answers h.cites.most (λ k d within. cite_most _ (h.numbers k d within) (h.cites.each k d within).within) in
-    omega (arith, scale, weights, cites,
-    length3 (signed_decimal c.scale ++ codes " " ++ listed signed_decimal c.increments) (codes " ") (cites_text c.answers),
-    length3 (signed_decimal c.scale) (codes " ") (listed signed_decimal c.increments))
+    omega (
+      arith,
+      scale,
+      weights,
+      cites,
+      length3 (signed_decimal c.scale ++ codes " " ++ listed signed_decimal c.increments) (codes " ") (cites_text c.answers),
+      length3 (signed_decimal c.scale) (codes " ") (listed signed_decimal c.increments),
+    )
 
 elimination_most : (criteria : Criteria) (e : Elimination) → IsModel criteria → HasEliminationForm criteria e → length (elimination_line e) ≤ longest_line
 elimination_most criteria e m h =
     let ranking : Answer = record { pair = e.pair; side = e.verdict } in
     let worker : length (decimal e.worker) ≤ 2 = decimal_most 2 e.worker (omega arith) (omega (arith, h.worker)) (omega (arith, h.worker)) in
-    omega (arith, worker, ranking_most criteria ranking m h.pair, combination_most criteria e.combination m h.combination,
-    length6 (codes "eliminate ") (decimal e.worker) (codes " ") (ranking_text ranking) (codes " ") (combination_text e.combination))
+    omega (
+      arith,
+      worker,
+      ranking_most criteria ranking m h.pair,
+      combination_most criteria e.combination m h.combination,
+      length6 (codes "eliminate ") (decimal e.worker) (codes " ") (ranking_text ranking) (codes " ") (combination_text e.combination),
+    )
 
 vector_most : (criteria : Criteria) (vector : List ℤ) → IsModel criteria → HasVectorForm criteria vector → length (vector_text vector) ≤ 744
 vector_most criteria vector m h =
@@ -168,8 +178,12 @@ vector_most criteria vector m h =
 vectors_most : (criteria : Criteria) (plus minus : List ℤ) → IsModel criteria → HasVectorForm criteria plus → HasVectorForm criteria minus
     → length (vectors_text plus minus) ≤ 1489
 vectors_most criteria plus minus m plus_form minus_form =
-    omega (arith, vector_most criteria plus m plus_form, vector_most criteria minus m minus_form,
-    length3 (vector_text plus) (codes " ") (vector_text minus))
+    omega (
+      arith,
+      vector_most criteria plus m plus_form,
+      vector_most criteria minus m minus_form,
+      length3 (vector_text plus) (codes " ") (vector_text minus),
+    )
 
 desk_most : (desk : ℕ) → HasDeskForm desk → length (decimal desk) ≤ 1
 desk_most desk h = decimal_most 1 desk (omega arith) (omega (arith, h.1)) (omega (arith, h.1))
@@ -190,13 +204,24 @@ pub entry_line_fits : (format : Format) (criteria : Criteria) (entry : Entry) �
     → length (entry_line entry) ≤ longest_line
 entry_line_fits format criteria (Eliminate e) m h = elimination_most criteria e m h
 entry_line_fits format criteria (Issue desk pair plus minus) m h =
-    omega (arith, desk_most desk h.0, pair_most criteria pair m h.1, vectors_most criteria plus minus m h.2 h.3,
-    length6 (codes "issue ") (decimal desk) (codes " ") (pair_text pair) (codes " ") (vectors_text plus minus))
+    omega (
+      arith,
+      desk_most desk h.0,
+      pair_most criteria pair m h.1,
+      vectors_most criteria plus minus m h.2 h.3,
+      length6 (codes "issue ") (decimal desk) (codes " ") (pair_text pair) (codes " ") (vectors_text plus minus),
+    )
 entry_line_fits format criteria (Commit desk question side plus minus point) m h =
     let front : List ℕ = codes "commit " ++ numbers_text desk question ++ codes " " ++ side_text side ++ codes " " ++ vectors_text plus minus in
-    omega (arith, numbers_most desk question h.0 h.1, side_most side, vectors_most criteria plus minus m h.2 h.3, vector_most criteria point m h.4,
-    length6 (codes "commit ") (numbers_text desk question) (codes " ") (side_text side) (codes " ") (vectors_text plus minus),
-    length3 front (codes " ") (vector_text point))
+    omega (
+      arith,
+      numbers_most desk question h.0 h.1,
+      side_most side,
+      vectors_most criteria plus minus m h.2 h.3,
+      vector_most criteria point m h.4,
+      length6 (codes "commit ") (numbers_text desk question) (codes " ") (side_text side) (codes " ") (vectors_text plus minus),
+      length3 front (codes " ") (vector_text point),
+    )
 entry_line_fits format criteria (Close desk question) m h =
     omega (arith, numbers_most desk question h.0 h.1, length2 (codes "close ") (numbers_text desk question))
 entry_line_fits One criteria (Withdraw desk answer) m h = absurd h

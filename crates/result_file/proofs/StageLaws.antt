@@ -1,5 +1,5 @@
 -- What one more line does to a stage.
-use Rattle.std.proofs.Common.{◌≡◌, ◌≢◌, ℕ, ◌≤◌, List, [], ◌∷◌, ◌++◌, length, take, refl, sym, ap, subst, Some, None}
+use Rattle.std.proofs.Common.{◌≡◌, ◌≢◌, ℕ, ◌≤◌, List, length, take, refl, sym, subst, Some, None}
 use Rattle.criteria_model.specs.Criteria.{Criteria}
 use Rattle.criteria_model.specs.Faults.{model_fault}
 use Rattle.criteria_model.specs.declared.faults.ModelFault.{ModelFault}

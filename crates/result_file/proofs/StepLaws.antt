@@ -145,7 +145,7 @@ front_claims : (criteria : Criteria) (before : List Claim) (claim : Claim) → A
 front_claims criteria before claim h = record {
   model = h.model;
   each = λ first one after e. h.each first one (after ++ claim ∷ [])
-  (ap (λ (claims : List Claim). claims ++ claim ∷ []) e ∙ append_assoc first (one ∷ after) (claim ∷ []));
+      (ap (λ (claims : List Claim). claims ++ claim ∷ []) e ∙ append_assoc first (one ∷ after) (claim ∷ []));
 }
 
 front_holds : {X : Type 0} (P : X → Type 0) (xs : List X) (x : X) → All P (xs ++ x ∷ []) → All P xs

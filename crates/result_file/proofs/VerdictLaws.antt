@@ -1,5 +1,5 @@
 -- What each line, and the end of the text, says of a text.
-use Rattle.std.proofs.Common.{◌≡◌, ℕ, ◌+◌, ◌<◌, ◌≤◌, List, [], ◌∷◌, ◌++◌, length, map, suc, take, drop, get_or, take-append-drop, drop-cons, length-take, refl, sym, ap, subst, ◌∙◌, arith, append-nil, length-append, inl, inr}
+use Rattle.std.proofs.Common.{◌≡◌, ℕ, ◌+◌, ◌<◌, ◌≤◌, List, [], ◌∷◌, ◌++◌, length, suc, take, drop, get_or, take-append-drop, drop-cons, length-take, refl, sym, ap, subst, ◌∙◌, arith, append-nil, length-append, inl, inr}
 use Rattle.std.specs.Prelude.{Option, Some, None, IfSome, All}
 use Rattle.std.specs.Io.KnownBytes.{prepend_known}
 use Rattle.std.proofs.lemmas.List.Elements.{All-nil, All-cons, All-append}
@@ -21,7 +21,7 @@ use Rattle.result_file.specs.declared.verdicts.Checked.{Checked}
 use Rattle.result_file.specs.declared.verdicts.Checked.TheVariants.{Valid, ValidComplete, Invalid, Unfinished, ReadFault, NoMemory}
 use Rattle.result_file.specs.Bodies.{IsOfWhole}
 use Rattle.result_file.specs.Checked.{Stage, blank, headed, begun, ended, Says, Fails, IsFileOf, IsChecked, IsToldChecked}
-use Rattle.result_file.specs.Contents.{Content, of_claims, of_events, lines_of, body_of, kind_of, criteria_of, IsRightContent}
+use Rattle.result_file.specs.Contents.{Content, of_claims, of_events, lines_of, body_of, IsRightContent}
 use Rattle.result_file.specs.Events.{event_line}
 use Rattle.result_file.specs.Places.{StandsFor, GoesOn, EndsWhole, EndsAs, HasCome}
 use Rattle.result_file.specs.RightClaims.{AreClaims}

@@ -15,6 +15,7 @@ use Rattle.result_file.specs.Claims.{Claim, eliminated, answers_of}
 use Rattle.result_file.specs.Contents.{Content, of_claims, of_events, IsRightContent, IsCompleteContent}
 use Rattle.result_file.specs.RightClaims.{AreClaims}
 use Rattle.result_file.specs.RightEvents.{AreEvents}
+use Rattle.result_file.proofs.OneVerdict.{one_content_lem}
 use Rattle.result_file.specs.Worth.{ClaimsAreRanked, EventsAreRanked, EliminatedAreRanked, SettlesAll, IsWorth}
 
 -- what right claims eliminate is ranked by the answers above
@@ -42,7 +43,10 @@ settles (of_events format survey) h complete = record {
 -- a text is worth its verdict
 pub worth : (text : List ℕ) (verdict : Checked) → IsChecked text verdict → IsWorth text verdict
 worth text Valid checked = λ content file. eliminated_are_ranked content file.right
-worth text ValidComplete checked = (λ content file. eliminated_are_ranked content file.right, (checked.0, checked.1, settles checked.0 checked.1.right checked.2))
+worth text ValidComplete checked = (
+  λ content file. eliminated_are_ranked content file.right,
+  λ content file. subst SettlesAll (one_content_lem text checked.0 content checked.1 file) (settles checked.0 checked.1.right checked.2),
+)
 worth text verdict checked = tt
 
 pub told_worth : (text : Option (List ℕ)) (verdict : Checked) → IsToldChecked text verdict → IfSome text (λ bytes. IsWorth bytes verdict)

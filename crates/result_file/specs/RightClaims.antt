@@ -1,5 +1,5 @@
 -- When a claim is right after those before it, and which part of it is wrong first.
-use Rattle.std.specs.Prelude.{◌≡◌, ℕ, ◌<◌, ◌≤◌, List, ◌∷◌, ◌++◌, length, Some}
+use Rattle.std.specs.Prelude.{◌≡◌, ◌<◌, ◌≤◌, List, ◌∷◌, ◌++◌, length, Some}
 use Rattle.criteria_model.specs.Criteria.{Criteria, IsModel}
 use Rattle.criteria_model.specs.Classes.{IsClass}
 use Rattle.farkas_check.specs.declared.flaws.Flaw.{Flaw}

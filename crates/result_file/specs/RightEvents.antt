@@ -1,8 +1,8 @@
 -- When the events of a result are right, and which part of the next line is wrong first.
-use Rattle.std.specs.Prelude.{◌≡◌, ◌<◌, ◌≤◌, List, length, All}
+use Rattle.std.specs.Prelude.{◌≡◌, ◌<◌, ◌≤◌, length, All}
 use Rattle.criteria_model.specs.Criteria.{Criteria}
 use Rattle.criteria_model.specs.Classes.{IsClass}
-use Rattle.pair_enumeration.specs.Listed.{Listed, IsListed}
+use Rattle.pair_enumeration.specs.Listed.{IsListed}
 use Rattle.survey_core.specs.declared.events.Event.{Event}
 use Rattle.survey_core.specs.declared.broken.Broken.{Broken}
 use Rattle.survey_core.specs.Legal.{IsLegal}

@@ -50,9 +50,9 @@ SettlesAll (of_events format survey) = IsSettled survey
 abbrev pub IsRankedFile : List ℕ → Type 0
 IsRankedFile text = (content : Content) → IsFileOf content text → EliminatedAreRanked content
 
--- the text is the file of a survey that settles every pair
+-- whatever the text contains is a survey that settles every pair
 abbrev pub IsSettledFile : List ℕ → Type 0
-IsSettledFile text = (content : Content) × IsFileOf content text × SettlesAll content
+IsSettledFile text = (content : Content) → IsFileOf content text → SettlesAll content
 
 -- what a text with this verdict is worth
 abbrev pub IsWorth : List ℕ → Checked → Type 0

@@ -114,7 +114,7 @@ pub(crate) struct Marks {
     questions: Vec<Question>,
     // How many classes are ranked, and how many questions are open.
     ranked: u32,
-    open: u32,
+    open_count: u32,
     // How many classes in front are each ranked or issued; the next one is neither.
     settled: u32,
 }
@@ -128,7 +128,7 @@ impl std::marker::Model for Marks {
 
     ghost view = { λ m. record { classes = m.classes.items; questions = m.questions.items } };
 
-    ghost invariant = { λ m. IsTable (record { classes = m.classes.items; questions = m.questions.items }) (vec_capacity m.questions) m.ranked m.open m.settled };
+    ghost invariant = { λ m. IsTable (record { classes = m.classes.items; questions = m.questions.items }) (vec_capacity m.questions) m.ranked m.open_count m.settled };
 }
 
 impl Marks {
@@ -145,7 +145,7 @@ impl Marks {
             classes: vec![in alloc; unmarked; classes]?,
             questions: Vec::with_capacity(alloc, classes)?,
             ranked: 0,
-            open: 0,
+            open_count: 0,
             settled: 0,
         })
     }
@@ -184,7 +184,7 @@ impl Marks {
     pub fn open_questions(&self) -> u32
         ensures { result ≡ count_by is_open_mark self.now.questions }
     {
-        self.open
+        self.open_count
     }
 
     /// Whether each class is ranked.
@@ -232,7 +232,7 @@ impl Marks {
             place,
             ending: Ending::Open,
         });
-        self.open += 1;
+        self.open_count += 1;
         self.settled = settled_from(self.classes.as_slice(), self.settled as usize) as u32;
     }
 
@@ -247,7 +247,7 @@ impl Marks {
     {
         let question = &mut self.questions[number as usize - 1];
         question.ending = ending;
-        self.open -= 1;
+        self.open_count -= 1;
     }
 
     /// Takes back what rests on this answer or on later ones.
@@ -258,7 +258,7 @@ impl Marks {
         unrank(self.classes.as_mut_slice(), answer);
         reopen(self.questions.as_mut_slice(), answer);
         self.ranked = count_ranked(self.classes.as_slice());
-        self.open = count_open(self.questions.as_slice());
+        self.open_count = count_open(self.questions.as_slice());
         self.settled = settled_from(self.classes.as_slice(), 0) as u32;
     }
 }

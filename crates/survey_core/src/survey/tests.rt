@@ -20,7 +20,7 @@ const GONE: QuestionState = QuestionState::Gone { place: 2 };
 struct Expected {
     /// The places of the ranked classes.
     ranked: &'static [u32],
-    open: u32,
+    open_questions: u32,
     /// What became of question 2.
     second: QuestionState,
     answers: u32,
@@ -44,14 +44,14 @@ fn refused(event: Event, part: Broken) -> Row {
 
 fn after(
     ranked: &'static [u32],
-    open: u32,
+    open_questions: u32,
     second: QuestionState,
     answers: u32,
     withdrawals: u32,
 ) -> Expected {
     Expected {
         ranked,
-        open,
+        open_questions,
         second,
         answers,
         withdrawals,
@@ -194,7 +194,7 @@ fn expect(rt: &impl Abort, core: &Core, expected: &Expected) {
         core.all_ranked(),
         expected.ranked.len() == classes as usize
     );
-    assert_eq!(rt; core.open_questions(), expected.open);
+    assert_eq!(rt; core.open_questions(), expected.open_questions);
     assert_eq!(rt; core.question(2), expected.second);
     assert_eq!(rt; core.answers().len(), expected.answers);
     assert_eq!(rt; core.withdrawals(), expected.withdrawals);

@@ -1,4 +1,3 @@
-use Rattle.std.proofs.Common.{◌≡◌}
 use Rattle.result_file.proofs.ContentLaws.{whole_complete, whole_incomplete}
 use Rattle.result_file.proofs.bodies.Body.verdict.Goals as goal
 

@@ -1,5 +1,4 @@
 use Rattle.std.proofs.Common.{◌≢◌, ◌<◌, length, Some, refl, subst, arith}
-use Rattle.criteria_model.specs.Criteria.{IsModel}
 use Rattle.result_file.specs.Checked.{begun, Fails}
 use Rattle.result_file.specs.Contents.{of_events}
 use Rattle.result_file.specs.Entries.{ReadsEntry}

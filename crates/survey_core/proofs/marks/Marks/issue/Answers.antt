@@ -45,7 +45,7 @@ invariant_of-self c =
     let at : slice_get classes (c.args.place - 1) ≡ Some mark =
     slice_get_read classes (length classes) (c.args.place - 1) mark refl inside c.index_mut-mark.ensures.value in
     rw (c.push_reserved.ensures.items, c.push_reserved.ensures.capacity)
-    (issued_table classes c.self.inside.questions.items (vec_capacity c.self.inside.questions) c.self.inside.ranked c.self.inside.open c.self.inside.settled
+    (issued_table classes c.self.inside.questions.items (vec_capacity c.self.inside.questions) c.self.inside.ranked c.self.inside.open_count c.self.inside.settled
     c.self.invariant (c.args.place - 1) c.settled_from.result c.args.place mark at
     (c.requires.before mark (ap (λ (l : List Mark). slice_get l (c.args.place - 1)) (sym same) ∙ at)) c.as_slice.result.now c.as_slice.ensures.value
     c.settled_from.ensures.front c.settled_from.ensures.next c.settled_from.ensures.within)
