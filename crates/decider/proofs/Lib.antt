@@ -1,2 +1,13 @@
 pub mod RowTests
 pub mod Standings
+pub mod AnswerRows
+pub mod Between
+pub mod Walks
+pub mod Citing
+pub mod CommonDivisors
+pub mod Combinations
+pub mod ClashValues
+pub mod CitedGains
+pub mod Verdicts
+pub mod Mirror
+pub mod Deciding

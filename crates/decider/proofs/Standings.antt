@@ -1,7 +1,6 @@
 -- For which answers rows stand.
-use Rattle.std.proofs.Common.{◌≡◌, ◌≢◌, ℕ, zero, suc, ◌+◌, ◌-◌, ◌*◌, ◌<◌, ◌≤◌, Bool, true, false, List, [], ◌∷◌, ◌++◌, length, get_or, take, drop, Some, ◌⊎◌, inl, inr, refl, sym, ap, subst, ◌∙◌, arith, append_assoc, take-append-drop}
+use Rattle.std.proofs.Common.{◌≡◌, ℕ, zero, suc, ◌+◌, ◌-◌, ◌*◌, ◌<◌, ◌≤◌, true, false, List, [], ◌∷◌, ◌++◌, length, get_or, take, drop, Some, ◌⊎◌, inl, inr, refl, sym, ap, subst, ◌∙◌, arith, append_assoc}
 use Rattle.std.specs.Prelude.{nat_lt, slice_get}
-use Rattle.std.specs.List.{flat_map}
 use Rattle.std.proofs.lemmas.Bool.{cases_Bool, ltb-true, ltb-false}
 use Rattle.std.proofs.lemmas.List.{ext_get_or, get_or-append_right, length-append, append-nil}
 use Rattle.std.proofs.lemmas.Grind.{flat_map-append}
@@ -13,7 +12,7 @@ use Rattle.fraction_free.specs.declared.loaded.LoadedRow.{LoadedRow}
 use Rattle.fraction_free.specs.Tableau.{Tableau, IsDictionary, loaded_at, no_row}
 use Rattle.fraction_free.specs.Changes.{empty_tableau, next_count}
 use Rattle.criteria_model.specs.Worth.{increments}
-use Rattle.decider.specs.Standing.{rows_of, rows_of_answers, HasRow, BeginsAt, StandsFor, HasRoom, KeepsRoom, BringsUp}
+use Rattle.decider.specs.Standing.{rows_of, rows_of_answers, BeginsAt, StandsFor, HasRoom, KeepsRoom, BringsUp}
 
 pub begins_append : (l xs ys : List LoadedRow) (from : ℕ) → BeginsAt l xs from → BeginsAt l ys (from + length xs) → BeginsAt l (xs ++ ys) from
 begins_append l [] ys from h k = let e : from + 0 ≡ from = omega arith in subst (BeginsAt l ys) e k
@@ -168,6 +167,13 @@ rows_len-most levels (x ∷ answers) (suc i) =
     let here = rows_most levels x.pair x.side in
     omega (arith, length-append (rows_of levels x.pair x.side) (rows_of_answers levels (take i answers)), rest, here)
 
+take_whole : (answers : List Answer) → take (length answers) answers ≡ answers
+take_whole [] = refl
+take_whole (x ∷ answers) = ap (λ (l : List Answer). x ∷ l) (take_whole answers)
+
+pub rows_len-whole : (levels : List ℕ) (answers : List Answer) → length (rows_of_answers levels answers) ≤ 2 * length answers
+rows_len-whole levels answers = subst (λ (l : List Answer). length (rows_of_answers levels l) ≤ 2 * length answers) (take_whole answers) (rows_len-most levels answers (length answers))
+
 pub rows_len-lt : (levels : List ℕ) (answers : List Answer) (i j : ℕ) → i < j → j ≤ length answers → length (rows_of_answers levels (take i answers)) < length (rows_of_answers levels (take j answers))
 rows_len-lt levels answers i zero lt le = absurd (omega arith)
 rows_len-lt levels [] i (suc j) lt le = absurd (omega arith)
@@ -229,7 +235,7 @@ pub record BroughtSoFar (levels : List ℕ) (answers : List Answer) (start now :
   pub dictionary : IsDictionary now
 
 pub brought_more : (levels : List ℕ) (answers : List Answer) (start now new : Tableau) (held at : ℕ) (answer : Answer) → held ≤ at → at < length answers → get_or answers at answer ≡ answer
-    → new.loaded ≡ now.loaded ++ rows_of levels answer.pair answer.side → new.columns ≡ now.columns → KeepsRoom now new → new.loads ≡ now.loads → new.added ≤ now.added + 2 → IsDictionary new
+    → new.loaded ≡ now.loaded ++ rows_of levels answer.pair answer.side → new.columns ≡ now.columns → KeepsRoom now new → new.loads ≡ now.loads → new.added ≤ now.added + length (rows_of levels answer.pair answer.side) → IsDictionary new
     → BroughtSoFar levels answers start now held at → BroughtSoFar levels answers start new held (at + 1)
 brought_more levels answers start now new held at answer low lt e loaded columns room loads added is so = record {
   stands = record {
@@ -238,7 +244,7 @@ brought_more levels answers start now new held at answer low lt e loaded columns
   };
   room = record { columns = room.columns ∙ so.room.columns; rows = room.rows ∙ so.room.rows };
   loads = loads ∙ so.loads;
-  added = let a = so.added in omega arith;
+  added = let a = so.added in let most = rows_most levels answer.pair answer.side in omega arith;
   dictionary = is;
 }
 
@@ -246,10 +252,6 @@ pub brought_room : (levels : List ℕ) (answers : List Answer) (old start now : 
     → BroughtSoFar levels answers start now held at → length now.loaded + 2 ≤ now.room_rows
 brought_room levels answers old start now held at lt room kept so =
     omega (arith, ap length so.stands.loaded, rows_len-most levels answers at, room.rows, kept.rows, so.room.rows)
-
-take_whole : (answers : List Answer) → take (length answers) answers ≡ answers
-take_whole [] = refl
-take_whole (x ∷ answers) = ap (λ (l : List Answer). x ∷ l) (take_whole answers)
 
 pub brought_up : (levels : List ℕ) (answers : List Answer) (old start now : Tableau) (held at : ℕ) → length answers ≤ at → at ≤ length answers → Begun levels answers old start held → BroughtSoFar levels answers start now held at
     → BringsUp levels answers 0 old now

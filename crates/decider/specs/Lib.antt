@@ -1,2 +1,4 @@
 pub mod Standing
 pub mod Decisions
+pub mod Combining
+pub mod Trying

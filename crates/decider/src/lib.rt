@@ -2,13 +2,17 @@
 //! beside them.
 #![tactic(auto)]
 
+mod cite_list;
+mod combination;
 mod decision;
+mod decisions;
+mod point;
 mod rows;
 mod standing;
 mod tools;
 mod trial;
 
 pub use decision::Decision;
-pub use standing::bring_up;
+pub use decisions::decide;
+pub use point::point_with;
 pub use tools::{Snapshot, Tools};
-pub use trial::try_side;

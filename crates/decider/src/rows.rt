@@ -56,7 +56,7 @@ pub fn add_rows(model: &Model, pair: &Pair, side: Side, work: &mut Dictionary)
     ensures columns { work.new.columns ≡ work.old.columns }
     ensures room { KeepsRoom work.old work.new }
     ensures loads { work.new.loads ≡ work.old.loads }
-    ensures added { work.new.added ≤ work.old.added + 2 }
+    ensures added { work.new.added ≤ work.old.added + length (rows_of model.now.levels pair.now side) }
     ensures dictionary { IsDictionary work.new }
 {
     match side {

@@ -1,13 +1,14 @@
 //! A ranking tried beside the answers.
-ghost use Rattle.std.specs.Prelude.{◌≡◌, ◌+◌, ◌≤◌, ◌++◌, length};
+ghost use Rattle.std.specs.Prelude.{ℤ, ◌≡◌, ◌+◌, ◌≤◌, List, ◌++◌, length};
 ghost use Rattle.criteria_model.specs.Worth.{increments};
 ghost use Rattle.criteria_model.specs.Pairs.{IsFit};
 ghost use Rattle.fraction_free.specs.Tableau.{IsDictionary};
+ghost use Rattle.simplex.specs.Rows.{MeetsRows, HasNoDivisor};
 ghost use Rattle.simplex.specs.Results.{IsFound};
 ghost use Rattle.decider.specs.Standing.{rows_of, KeepsRoom};
 
 use crate::rows::{add_rows, row_count};
-use criteria_model::{Model, Pair, Side};
+use criteria_model::{Model, Pair, Side, Vector};
 use fraction_free::Dictionary;
 use simplex::{Found, solve};
 
@@ -21,7 +22,7 @@ pub fn try_side(model: &Model, pair: &Pair, side: Side, work: &mut Dictionary) -
     ensures columns { work.new.columns ≡ work.old.columns }
     ensures room { KeepsRoom work.old work.new }
     ensures loads { work.new.loads ≡ work.old.loads }
-    ensures added { work.new.added ≤ work.old.added + 2 }
+    ensures added { work.new.added ≤ work.old.added + length (rows_of model.now.levels pair.now side) }
     ensures dictionary { IsDictionary work.new }
 {
     add_rows(model, pair, side, work);
@@ -31,4 +32,25 @@ pub fn try_side(model: &Model, pair: &Pair, side: Side, work: &mut Dictionary) -
         work.drop_last();
     }
     found
+}
+
+/// A vector that meets the dictionary's rows and ranks the pair so, where there is one.
+pub fn point_for(model: &Model, pair: &Pair, side: Side, work: &mut Dictionary) -> Vector
+    requires fits { IsFit model.now.levels pair.now }
+    requires columns { work.old.columns ≡ increments model.now.levels }
+    requires room { length work.old.loaded + 2 ≤ work.old.room_rows }
+    requires some { (vector : List ℤ) × MeetsRows work.old.columns (work.old.loaded ++ rows_of model.now.levels pair.now side) vector }
+    ensures meets { MeetsRows work.old.columns (work.old.loaded ++ rows_of model.now.levels pair.now side) result }
+    ensures reduced { HasNoDivisor result }
+    ensures loaded { work.new.loaded ≡ work.old.loaded }
+    ensures columns { work.new.columns ≡ work.old.columns }
+    ensures room { KeepsRoom work.old work.new }
+    ensures loads { work.new.loads ≡ work.old.loads }
+    ensures added { work.new.added ≤ work.old.added + length (rows_of model.now.levels pair.now side) }
+    ensures dictionary { IsDictionary work.new }
+{
+    match try_side(model, pair, side, work) {
+        Found::Point(vector) => vector,
+        Found::Clash(_) => unreachable!(),
+    }
 }

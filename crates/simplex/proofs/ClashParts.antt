@@ -1,6 +1,6 @@
 -- The parts of a clash.
 use Rattle.std.proofs.Common.{◌≡◌, ◌≢◌, ℕ, zero, suc, ◌+◌, ◌-◌, ◌<◌, ◌≤◌, Bool, true, false, cond, List, [], ◌∷◌, map, length, get_or, replicate, ◌⊎◌, inl, inr, ℤ, pos, negsuc, neg_ℤ, ◌+ℤ◌, ◌-ℤ◌, ◌*ℤ◌, ◌<ℤ◌, ◌≤ℤ◌, refl, sym, ap, subst, ◌∙◌, arith}
-use Rattle.std.specs.Prelude.{nat_lt, ◌==◌, All, Any, slice_index_or}
+use Rattle.std.specs.Prelude.{nat_lt, ◌==◌, not, count_by, All, Any, slice_index_or}
 use Rattle.std.specs.List.{range_with_len}
 use Rattle.std.proofs.Math.IntN.{*ℤ_comm}
 use Rattle.std.proofs.lemmas.Int.{ints, by_lt_z}
@@ -16,16 +16,17 @@ use Rattle.least_index.proofs.Signs.{mul_nonneg, nonneg_of_pos}
 use Rattle.fraction_free.specs.declared.loaded.LoadedRow.{LoadedRow}
 use Rattle.fraction_free.specs.Tableau.{Tableau, IsDictionary, loaded_at}
 use Rattle.simplex.specs.declared.row_weights.RowWeight.{RowWeight}
-use Rattle.simplex.specs.Weights.{IsRowWeight, AreRowWeights, weighted}
+use Rattle.simplex.specs.Weights.{is_weight, IsRowWeight, AreRowWeights, weighted}
 use Rattle.simplex.specs.Choice.{constant_of, IsBlocked}
-use Rattle.simplex.specs.Equation.{weight_of, HasSlackWeights}
+use Rattle.simplex.specs.Equation.{weight_of, how_many, has_slack, HasSlackWeights}
 use Rattle.simplex.specs.Rows.{MeetsRows}
 use Rattle.simplex.specs.Results.{IsClash, IsStrictRow, coefficient}
 use Rattle.simplex.proofs.Positions.{dot-sum}
 use Rattle.simplex.proofs.Equations.{weight_of-nonneg}
+use Rattle.simplex.proofs.FewWeights.{how_many-parts}
 use Rattle.simplex.proofs.Clashes.{sum_neg, sum_nonneg, weights_at_vector}
 
-weighted_same : (f g : ℕ → ℤ) (rows : List RowWeight) → All (λ item. f item.row ≡ g item.row) rows → weighted f rows ≡ weighted g rows
+pub weighted_same : (f g : ℕ → ℤ) (rows : List RowWeight) → All (λ item. f item.row ≡ g item.row) rows → weighted f rows ≡ weighted g rows
 weighted_same f g [] h = refl
 weighted_same f g (x ∷ rows) h =
     ap (λ (n : ℤ). x.weight *ℤ n +ℤ weighted f rows) (h 0 x (omega arith))
@@ -39,10 +40,10 @@ weighted_neg f (x ∷ rows) =
     step : (w a s : ℤ) → w *ℤ neg_ℤ a +ℤ neg_ℤ s ≡ neg_ℤ (w *ℤ a +ℤ s)
     step w a s = omega (arith, sums, mul-neg w a)
 
-add_nonneg : (a b : ℤ) → pos 0 ≤ℤ a → pos 0 ≤ℤ b → pos 0 ≤ℤ (a +ℤ b)
+pub add_nonneg : (a b : ℤ) → pos 0 ≤ℤ a → pos 0 ≤ℤ b → pos 0 ≤ℤ (a +ℤ b)
 add_nonneg a b h k = omega (arith, ints)
 
-weighted_nonneg : (f : ℕ → ℤ) (rows : List RowWeight) → All IsRowWeight rows → All (λ item. pos 0 ≤ℤ f item.row) rows → pos 0 ≤ℤ weighted f rows
+pub weighted_nonneg : (f : ℕ → ℤ) (rows : List RowWeight) → All IsRowWeight rows → All (λ item. pos 0 ≤ℤ f item.row) rows → pos 0 ≤ℤ weighted f rows
 weighted_nonneg f [] are h = omega (arith, ints)
 weighted_nonneg f (x ∷ rows) are h =
     add_nonneg (x.weight *ℤ f x.row) (weighted f rows)
@@ -63,6 +64,8 @@ pub record HasWeights (d : Tableau) (row : ℕ) (increments : List ℤ) (rows : 
   pub weights : AreRowWeights rows
   pub loaded_rows : All (λ item. item.row ≤ length d.loaded) rows
   pub slacks : HasSlackWeights d row (d.columns + 1 + length d.loaded) rows
+  pub few_own : count_by is_weight increments ≤ how_many (λ place. not (has_slack d row place)) (d.columns + 1)
+  pub few_rows : length rows ≤ how_many (has_slack d row) (d.columns + 1)
 
 own_nonneg : (d : Tableau) (row : ℕ) (increments : List ℤ) (rows : List RowWeight) → HasWeights d row increments rows → (k : ℕ) → k < d.columns → pos 0 ≤ℤ get_or increments k (pos 0)
 own_nonneg d row increments rows has k lt =
@@ -234,4 +237,5 @@ weights_are_clash d row increments rows has = record {
   loaded_rows = has.loaded_rows;
   sums = column_sum d row increments rows has;
   strict = has_strict d row increments rows has;
+  few = omega (arith, has.few_own, has.few_rows, how_many-parts (has_slack d row) (d.columns + 1));
 }

@@ -12,4 +12,5 @@ pub mod Equations
 pub mod NextSlacks
 pub mod Slacks
 pub mod Clashes
+pub mod FewWeights
 pub mod ClashParts

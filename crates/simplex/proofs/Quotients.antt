@@ -1,5 +1,5 @@
 -- A list over its greatest common divisor.
-use Rattle.std.proofs.Common.{◌≡◌, ◌≢◌, ℕ, zero, suc, ◌+◌, ◌-◌, ◌*◌, ◌/◌, ◌^◌, ◌<◌, ◌≤◌, List, [], ◌∷◌, map, length, get_or, set, take, ℤ, pos, negsuc, ◌*ℤ◌, ◌<ℤ◌, ◌≤ℤ◌, unsigned_abs, FitsSigned, to_z, of_z, refl, sym, ap, subst, ◌∙◌, arith, mul-le-mul_left, below_more}
+use Rattle.std.proofs.Common.{◌≡◌, ◌≢◌, ℕ, zero, suc, ◌+◌, ◌-◌, ◌*◌, ◌/◌, ◌^◌, ◌<◌, ◌≤◌, List, [], ◌∷◌, map, length, get_or, set, take, ℤ, pos, negsuc, neg_ℤ, ◌*ℤ◌, ◌<ℤ◌, ◌≤ℤ◌, unsigned_abs, FitsSigned, to_z, of_z, refl, sym, ap, subst, ◌∙◌, arith, mul-le-mul_left, below_more}
 use mir.Syntax.{w128}
 use lib.Signed.{quot_z}
 use Rattle.std.specs.Prelude.{All, slice_set}
@@ -11,22 +11,26 @@ use Rattle.std.proofs.lemmas.Int.{ints, unsigned_abs-mul}
 use Rattle.std.proofs.lemmas.List.{ext_get_or, get_or-map, get_or-take, get_or-set_same, get_or-set_other, length-map, length-take-le}
 use Rattle.std.proofs.lemmas.List.Elements.{All-from_get_or}
 use borrow.Author.Differences.{product_is}
+use Rattle.minors.proofs.Ring.{mul-neg}
 use Rattle.criteria_model.specs.Lists.{IsVector}
 use Rattle.criteria_model.specs.Rows.{times}
 use Rattle.least_index.proofs.Signs.{mul_nonpos, mul_nonneg, nonneg_of_pos}
 use Rattle.simplex.specs.Rows.{HasNoDivisor}
 use Rattle.simplex.proofs.Sizes.{kept, fits}
 
-exact : (v g : ℤ) → pos 1 ≤ℤ v → pos 1 ≤ℤ g → unsigned_abs g ∣ unsigned_abs v → g *ℤ quot_z v g ≡ v
-exact (pos v) (pos g) hv hg d = product (mul-div_cancel' g d)
+pub exact : (v g : ℤ) → pos 1 ≤ℤ g → unsigned_abs g ∣ unsigned_abs v → g *ℤ quot_z v g ≡ v
+exact (pos v) (pos g) hg d = product (mul-div_cancel' g d)
   where
     product : g * (v / g) ≡ v → pos g *ℤ pos (v / g) ≡ pos v
     product e = omega (arith, ints, product_is (pos g) (pos (v / g)), e)
-exact (negsuc v) g hv hg d = absurd (omega (arith, ints))
-exact (pos v) (negsuc g) hv hg d = absurd (omega (arith, ints))
+exact (negsuc v) (pos g) hg d = mul-neg (pos g) (pos (suc v / g)) ∙ product (mul-div_cancel' g d)
+  where
+    product : g * (suc v / g) ≡ suc v → neg_ℤ (pos g *ℤ pos (suc v / g)) ≡ negsuc v
+    product e = omega (arith, ints, product_is (pos g) (pos (suc v / g)), e)
+exact v (negsuc g) hg d = absurd (omega (arith, ints))
 
 -- a factor is no greater in size than the product
-factor_small : (g q v : ℤ) → pos 1 ≤ℤ g → g *ℤ q ≡ v → unsigned_abs q ≤ unsigned_abs v
+pub factor_small : (g q v : ℤ) → pos 1 ≤ℤ g → g *ℤ q ≡ v → unsigned_abs q ≤ unsigned_abs v
 factor_small (negsuc g) q v h e = absurd (omega (arith, ints))
 factor_small (pos g) q v h e =
     let size : unsigned_abs v ≡ g * unsigned_abs q = ap unsigned_abs (sym e) ∙ unsigned_abs-mul (pos g) q in
@@ -39,20 +43,20 @@ factor_small (pos g) q v h e =
 casts_away : (v g : ℤ) → unsigned_abs v < 2 ^ 96 → unsigned_abs g < 2 ^ 126 → quot_z (to_z w128 (of_z w128 v)) (to_z w128 (of_z w128 g)) ≡ quot_z v g
 casts_away v g hv hg = ap (λ (n : ℤ). quot_z n (to_z w128 (of_z w128 g))) (kept v (omega arith)) ∙ ap (quot_z v) (kept g hg)
 
-pub quotient_fits : (v g : ℤ) → pos 1 ≤ℤ v → unsigned_abs v < 2 ^ 96 → pos 1 ≤ℤ g → unsigned_abs g < 2 ^ 126 → unsigned_abs g ∣ unsigned_abs v
+pub quotient_fits : (v g : ℤ) → unsigned_abs v < 2 ^ 96 → pos 1 ≤ℤ g → unsigned_abs g < 2 ^ 126 → unsigned_abs g ∣ unsigned_abs v
     → FitsSigned w128 (quot_z (to_z w128 (of_z w128 v)) (to_z w128 (of_z w128 g)))
-quotient_fits v g pv hv pg hg d =
-    let small : unsigned_abs (quot_z v g) ≤ unsigned_abs v = factor_small g (quot_z v g) v pg (exact v g pv pg d) in
+quotient_fits v g hv pg hg d =
+    let small : unsigned_abs (quot_z v g) ≤ unsigned_abs v = factor_small g (quot_z v g) v pg (exact v g pg d) in
     subst (λ (n : ℤ). FitsSigned w128 n) (sym (casts_away v g hv hg)) (fits (quot_z v g) (omega arith))
 
-pub quotient_is : (v g : ℤ) → pos 1 ≤ℤ v → unsigned_abs v < 2 ^ 96 → pos 1 ≤ℤ g → unsigned_abs g < 2 ^ 126 → unsigned_abs g ∣ unsigned_abs v
+pub quotient_is : (v g : ℤ) → unsigned_abs v < 2 ^ 96 → pos 1 ≤ℤ g → unsigned_abs g < 2 ^ 126 → unsigned_abs g ∣ unsigned_abs v
     → to_z w128 (of_z w128 g) *ℤ to_z w128 (of_z w128 (quot_z (to_z w128 (of_z w128 v)) (to_z w128 (of_z w128 g)))) ≡ v
-quotient_is v g pv hv pg hg d =
-    let small : unsigned_abs (quot_z v g) ≤ unsigned_abs v = factor_small g (quot_z v g) v pg (exact v g pv pg d) in
+quotient_is v g hv pg hg d =
+    let small : unsigned_abs (quot_z v g) ≤ unsigned_abs v = factor_small g (quot_z v g) v pg (exact v g pg d) in
     ap (λ (n : ℤ). n *ℤ to_z w128 (of_z w128 (quot_z (to_z w128 (of_z w128 v)) (to_z w128 (of_z w128 g))))) (kept g hg)
     ∙ ap (λ (n : ℤ). g *ℤ to_z w128 (of_z w128 n)) (casts_away v g hv hg)
     ∙ ap (λ (n : ℤ). g *ℤ n) (kept (quot_z v g) (omega arith))
-    ∙ exact v g pv pg d
+    ∙ exact v g pg d
 
 pub divisor_positive : (values : List ℤ) (g : ℤ) → 1 ≤ length values → All (λ x. pos 1 ≤ℤ x) values → pos 0 ≤ℤ g → All (λ x. unsigned_abs g ∣ unsigned_abs x) values → pos 1 ≤ℤ g
 divisor_positive values (negsuc g) some positive nonneg divides = absurd (omega (arith, ints))
@@ -105,7 +109,7 @@ multiple_is_vector values result g is pg e =
           omega arith);
     }
 
-positive_factor : (g q v : ℤ) → pos 1 ≤ℤ g → pos 1 ≤ℤ v → v ≡ g *ℤ q → pos 1 ≤ℤ q
+pub positive_factor : (g q v : ℤ) → pos 1 ≤ℤ g → pos 1 ≤ℤ v → v ≡ g *ℤ q → pos 1 ≤ℤ q
 positive_factor g (pos (suc q)) v pg pv e = omega (arith, ints)
 positive_factor g (pos zero) v pg pv e = absurd (impossible (pos zero *ℤ g) v (mul_nonpos (pos zero) g (omega (arith, ints)) (weak g pg)) pv (e ∙ *ℤ_comm g (pos zero)))
   where

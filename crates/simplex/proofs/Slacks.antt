@@ -14,15 +14,11 @@ use Rattle.fraction_free.specs.Tableau.{Tableau, IsDictionary}
 use Rattle.simplex.specs.declared.row_weights.RowWeight.{RowWeight}
 use Rattle.simplex.specs.Weights.{IsRowWeight, AreRowWeights, weighted}
 use Rattle.simplex.specs.Choice.{IsBlocked}
-use Rattle.simplex.specs.Equation.{variable_at, weight_at, weight_of, IsNextWeight, HasNoNextWeight, HasSlackWeights}
+use Rattle.simplex.specs.Equation.{variable_at, weight_at, weight_of, how_many, has_slack, IsNextWeight, HasNoNextWeight, HasSlackWeights}
 use Rattle.simplex.proofs.Pushes.{one_item, rows_more}
 use Rattle.simplex.proofs.Equations.{variable_range, weight_small, weight_nonneg, weight_of-at, weight_of-none, has_place}
 
 -- ---- how many numbers below n pass a test
-
-unfoldable pub how_many : (ℕ → Bool) → ℕ → ℕ
-how_many test zero = 0
-how_many test (suc n) = how_many test n + cond (test n) 1 0
 
 count_one : (a b : Bool) (m n : ℕ) → (a ≡ true → b ≡ true) → m ≤ n → m + cond a 1 0 ≤ n + cond b 1 0
 count_one true true m n h le = omega arith
@@ -112,7 +108,7 @@ sum-skip f n (suc m) le h = from (λ (k : n ≤ m). sum-skip f n m k (λ i l j. 
         let ne : n ≢ suc m = eqb-false n (suc m) e in
         drop_zero (sum_below f m) (f m) (h m (omega arith) (omega arith)) ∙ rest (omega arith)
 
-weighted-append : (of : ℕ → ℤ) (xs : List RowWeight) (x : RowWeight) → weighted of (xs ++ x ∷ []) ≡ weighted of xs +ℤ x.weight *ℤ of x.row
+pub weighted-append : (of : ℕ → ℤ) (xs : List RowWeight) (x : RowWeight) → weighted of (xs ++ x ∷ []) ≡ weighted of xs +ℤ x.weight *ℤ of x.row
 weighted-append of [] x = flip (x.weight *ℤ of x.row)
   where
     flip : (a : ℤ) → a +ℤ pos 0 ≡ pos 0 +ℤ a
@@ -151,7 +147,7 @@ pub record SlacksSoFar (d : Tableau) (row columns above : ℕ) (rows : List RowW
   pub high : above ≤ d.columns + length d.loaded
   pub weights : AreRowWeights rows
   pub below : All (λ item. item.row + d.columns ≤ above) rows
-  pub room : length rows + remaining d row above ≤ 25
+  pub room : length rows + remaining d row above ≤ remaining d row d.columns
   pub summed : HasSlackWeights d row (above + 1) rows
 
 pub slacks_none : (d : Tableau) (row columns : ℕ) → IsDictionary d → columns ≡ d.columns → SlacksSoFar d row columns columns []
@@ -161,13 +157,15 @@ slacks_none d row columns is e = record {
   high = omega arith;
   weights = record { most = omega arith; each = λ k x lt. absurd (omega arith); ascending = λ k lt. absurd (omega arith) };
   below = λ k x lt. absurd (omega arith);
-  room = let h = how_many-le (is_later d row columns) (d.columns + 1) in omega (arith, is.columns_most, h);
+  room = omega (arith, ap (remaining d row) e);
   summed = λ of. sym (sum-zero (slack_term d row of) (columns + 1) (λ u lt. cond-false (nat_lt d.columns u) (weight_of d row u *ℤ of (u - d.columns)) (pos 0) (le-ltb d.columns u (omega arith))));
 }
 
-pub slack_room : (d : Tableau) (row columns above place : ℕ) (rows : List RowWeight) → IsNextWeight d row above place → SlacksSoFar d row columns above rows → length rows < 25
-slack_room d row columns above place rows next so =
-    let falls = remaining_falls d row above (variable_at d row place) place next refl in let r = so.room in omega arith
+pub slack_room : (d : Tableau) (row columns above place : ℕ) (rows : List RowWeight) → IsDictionary d → IsNextWeight d row above place → SlacksSoFar d row columns above rows → length rows < 25
+slack_room d row columns above place rows is next so =
+    let falls = remaining_falls d row above (variable_at d row place) place next refl in
+    let most = how_many-le (is_later d row d.columns) (d.columns + 1) in
+    let r = so.room in omega (arith, is.columns_most)
 
 pub slacks_more : (d : Tableau) (row columns above v place : ℕ) (w : ℤ) (rows new : List RowWeight) → IsDictionary d → row < length d.loaded → IsBlocked d row
     → IsNextWeight d row above place → v ≡ variable_at d row place → w ≡ weight_at d row place → new ≡ rows ++ (record { row = v - columns; weight = w }) ∷ []
@@ -176,7 +174,7 @@ slacks_more d row columns above v place w rows new is lt blocked next ev ew en s
   columns_is = so.columns_is;
   low = let a = next.later in let b = so.low in omega (arith, ev);
   high = omega (arith, ev, range.1);
-  weights = subst AreRowWeights (sym en) (rows_more rows x so.weights (slack_room d row columns above place rows next so)
+  weights = subst AreRowWeights (sym en) (rows_more rows x so.weights (slack_room d row columns above place rows is next so)
       (record {
         numbered = let a = next.later in let b = so.low in omega (arith, ev, so.columns_is);
         positive = subst (λ (n : ℤ). pos 0 <ℤ n) (sym ew) next.positive;
@@ -223,3 +221,10 @@ slacks_done d row columns above rows is lt blocked none so of =
     so.summed of
     ∙ sym (sum-skip (slack_term d row of) (above + 1) (d.columns + 1 + length d.loaded) (let h = so.high in omega arith)
     (λ u l k. zero_term d row u of (zero_weight d is row u lt blocked (λ p lp e positive_weight. none p (omega arith) (omega (arith, e)) positive_weight))))
+
+-- no more rows than places that have slacks
+pub slacks_few : (d : Tableau) (row columns above : ℕ) (rows : List RowWeight) → SlacksSoFar d row columns above rows → length rows ≤ how_many (has_slack d row) (d.columns + 1)
+slacks_few d row columns above rows so =
+    let part : remaining d row d.columns ≤ how_many (has_slack d row) (d.columns + 1) =
+    how_many-part (is_later d row d.columns) (has_slack d row) (d.columns + 1) (λ i lt. and_left (has_slack d row i) (int_lt (pos 0) (weight_at d row i))) in
+    let r = so.room in omega arith

@@ -1,5 +1,5 @@
 -- A row's equation, with all variables on one side: places from 0 on have the basic variable and then the nonbasic ones.
-use Rattle.std.specs.Prelude.{ℕ, ◌+◌, ◌-◌, ◌≡◌, ◌≢◌, ◌<◌, ◌≤◌, cond, ◌==◌, nat_lt, List, length, slice_index, ℤ, pos, neg_ℤ, ◌*ℤ◌, ◌<ℤ◌}
+use Rattle.std.specs.Prelude.{ℕ, zero, suc, ◌+◌, ◌-◌, ◌≡◌, ◌≢◌, ◌<◌, ◌≤◌, Bool, cond, ◌==◌, nat_lt, List, length, slice_index, ℤ, pos, neg_ℤ, ◌*ℤ◌, ◌<ℤ◌}
 use Rattle.least_index.specs.System.{sum_below}
 use Rattle.least_index.specs.Rule.{first}
 use Rattle.fraction_free.specs.Tableau.{Tableau}
@@ -40,3 +40,12 @@ HasNoNextWeight tableau row above =
 abbrev pub HasSlackWeights : Tableau → ℕ → ℕ → List RowWeight → Type 0
 HasSlackWeights tableau row bound rows =
     (of : ℕ → ℤ) → weighted of rows ≡ sum_below (λ variable. cond (nat_lt tableau.columns variable) (weight_of tableau row variable *ℤ of (variable - tableau.columns)) (pos 0)) bound
+
+-- how many numbers below n pass a test
+unfoldable pub how_many : (ℕ → Bool) → ℕ → ℕ
+how_many test zero = 0
+how_many test (suc n) = how_many test n + cond (test n) 1 0
+
+-- a place has the variable of a slack, and not of an increment
+abbrev pub has_slack : Tableau → ℕ → ℕ → Bool
+has_slack tableau row place = nat_lt tableau.columns (variable_at tableau row place)

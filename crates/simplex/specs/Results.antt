@@ -1,5 +1,5 @@
 -- What `solve` finds: a vector, or weights that rule out every vector (Motzkin's transposition theorem, for rows of which some are strict).
-use Rattle.std.specs.Prelude.{ℕ, ◌≡◌, ◌⊎◌, ◌+◌, ◌-◌, ◌<◌, ◌≤◌, List, length, All, Any, slice_index_or, ℤ, pos, ◌+ℤ◌, ◌<ℤ◌, ◌≤ℤ◌}
+use Rattle.std.specs.Prelude.{ℕ, ◌≡◌, ◌⊎◌, ◌+◌, ◌-◌, ◌<◌, ◌≤◌, List, length, count_by, All, Any, slice_index_or, ℤ, pos, ◌+ℤ◌, ◌<ℤ◌, ◌≤ℤ◌}
 use Rattle.fraction_free.specs.declared.loaded.LoadedRow.{LoadedRow}
 use Rattle.fraction_free.specs.Tableau.{Tableau, loaded_at}
 use Rattle.simplex.specs.declared.row_weights.RowWeight.{RowWeight}
@@ -8,7 +8,7 @@ use Rattle.simplex.specs.declared.found.Found.{Found}
 use Rattle.simplex.specs.declared.found.Found.TheVariants.{Point}
 use Rattle.simplex.specs.declared.found.Found.TheVariants as variant
 use Rattle.simplex.specs.Rows.{MeetsRows, HasNoDivisor}
-use Rattle.simplex.specs.Weights.{AreRowWeights, weighted}
+use Rattle.simplex.specs.Weights.{is_weight, AreRowWeights, weighted}
 
 -- a row's coefficient at a column; rows are numbered from 1, columns from 0
 abbrev pub coefficient : List LoadedRow → ℕ → ℕ → ℤ
@@ -18,7 +18,7 @@ coefficient loaded column row = slice_index_or (loaded_at loaded (row - 1)).coef
 abbrev pub IsStrictRow : List LoadedRow → RowWeight → Type 0
 IsStrictRow loaded item = (loaded_at loaded (item.row - 1)).least ≡ pos 1
 
--- weights at least 0 on increments and positive ones on loaded rows, which sum to 0 in each increment, with a positive weight on an increment or on a row whose least is 1
+-- weights at least 0 on increments and positive ones on loaded rows, which sum to 0 in each increment, with a positive weight on an increment or on a row whose least is 1; at most one weight more than there are increments isn't 0
 pub record IsClash (columns : ℕ) (loaded : List LoadedRow) (clash : Clash) : Type 0 where
   pub len : length clash.increments ≡ columns
   pub own : All (λ weight. pos 0 ≤ℤ weight) clash.increments
@@ -26,6 +26,7 @@ pub record IsClash (columns : ℕ) (loaded : List LoadedRow) (clash : Clash) : T
   pub loaded_rows : All (λ item. item.row ≤ length loaded) clash.rows
   pub sums : (column : ℕ) → column < columns → slice_index_or clash.increments column (pos 0) +ℤ weighted (coefficient loaded column) clash.rows ≡ pos 0
   pub strict : Any (λ weight. pos 0 <ℤ weight) clash.increments ⊎ Any (IsStrictRow loaded) clash.rows
+  pub few : count_by is_weight clash.increments + length clash.rows ≤ columns + 1
 
 -- a point meets the rows and has no common divisor; a clash is valid, and no vector meets the rows
 abbrev pub IsFound : ℕ → List LoadedRow → Found → Type 0

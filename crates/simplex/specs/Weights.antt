@@ -1,8 +1,14 @@
 -- Weighted rows, and how they lie in 25 cells.
-use Rattle.std.specs.Prelude.{◌≡◌, ℕ, ◌-◌, ◌^◌, ◌<◌, ◌≤◌, List, [], ◌∷◌, ◌++◌, length, map, take, drop, replicate, All, ℤ, pos, ◌+ℤ◌, ◌*ℤ◌, ◌<ℤ◌, unsigned_abs}
+use Rattle.std.specs.Prelude.{◌≡◌, ℕ, zero, suc, ◌-◌, ◌^◌, ◌<◌, ◌≤◌, Bool, true, false, List, [], ◌∷◌, ◌++◌, length, map, take, drop, replicate, All, ℤ, pos, negsuc, ◌+ℤ◌, ◌*ℤ◌, ◌<ℤ◌, unsigned_abs}
 use Rattle.std.specs.List.Sorted.{IsStrictlyIncreasing}
 use Rattle.std.proofs.Common.{ap, sym, ◌∙◌, take-append-drop, length-take, arith}
 use Rattle.simplex.specs.declared.row_weights.RowWeight.{RowWeight}
+
+-- the weight isn't 0
+abbrev pub is_weight : ℤ → Bool
+is_weight (pos zero) = false
+is_weight (pos (suc n)) = true
+is_weight (negsuc n) = true
 
 -- the number of a row, and a positive weight below 2^96
 pub record IsRowWeight (item : RowWeight) : Type 0 where

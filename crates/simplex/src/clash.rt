@@ -1,10 +1,10 @@
 //! The clash of a row that no nonbasic variable helps.
-ghost use Rattle.std.specs.Prelude.{ℕ, ◌≡◌, ◌+◌, ◌-◌, ◌^◌, ◌<◌, ◌≤◌, List, length, All, MatchOption, slice_index_or, ℤ, pos, ◌<ℤ◌, ◌≤ℤ◌, unsigned_abs};
+ghost use Rattle.std.specs.Prelude.{ℕ, ◌≡◌, ◌+◌, ◌-◌, ◌^◌, ◌<◌, ◌≤◌, List, length, count_by, not, All, MatchOption, slice_index_or, ℤ, pos, ◌<ℤ◌, ◌≤ℤ◌, unsigned_abs};
 ghost use Rattle.fraction_free.specs.Tableau.{IsDictionary};
 ghost use Rattle.simplex.specs.Rows.{MeetsRows};
-ghost use Rattle.simplex.specs.Weights.{AreRowWeights};
+ghost use Rattle.simplex.specs.Weights.{is_weight, AreRowWeights};
 ghost use Rattle.simplex.specs.Choice.{IsBlocked, constant_of};
-ghost use Rattle.simplex.specs.Equation.{variable_at, weight_at, weight_of, IsNextWeight, HasNoNextWeight, HasSlackWeights};
+ghost use Rattle.simplex.specs.Equation.{variable_at, weight_at, weight_of, how_many, has_slack, IsNextWeight, HasNoNextWeight, HasSlackWeights};
 ghost use Rattle.simplex.specs.Results.{IsClash};
 
 use crate::found::Clash;
@@ -54,6 +54,7 @@ fn increment_weights(work: &Dictionary, row: u32) -> Vector
     ensures dictionary { IsDictionary work.now }
     ensures len { length result ≡ work.now.columns }
     ensures weights { (column : ℕ) → column < work.now.columns → slice_index_or result column (pos 0) ≡ weight_of work.now (row - 1) (column + 1) }
+    ensures few { count_by is_weight result ≤ how_many (λ place. not (has_slack work.now (row - 1) place)) (work.now.columns + 1) }
 {
     let columns = usize::from(work.cols());
     let mut cells = [0; 24];
@@ -96,6 +97,7 @@ fn slack_weights(work: &Dictionary, row: u32) -> RowWeights
     ensures weights { AreRowWeights result }
     ensures loaded_rows { All (λ item. item.row ≤ length work.now.loaded) result }
     ensures sums { HasSlackWeights work.now (row - 1) (work.now.columns + 1 + length work.now.loaded) result }
+    ensures few { length result ≤ how_many (has_slack work.now (row - 1)) (work.now.columns + 1) }
 {
     let columns = u32::from(work.cols());
     let mut rows = RowWeights::none();

@@ -1,7 +1,10 @@
-//! Greatest common divisors of lists.
-ghost use Rattle.std.specs.Prelude.{ℕ, ◌^◌, ◌<◌, All, pos, ◌≤ℤ◌, unsigned_abs};
+//! Greatest common divisors of lists, and lists over a divisor.
+ghost use Rattle.std.specs.Prelude.{ℕ, ◌≡◌, ◌^◌, ◌<◌, All, pos, ◌≤ℤ◌, unsigned_abs};
 ghost use Rattle.std.specs.Int.{◌∣◌};
+ghost use Rattle.criteria_model.specs.Lists.{IsVector};
+ghost use Rattle.criteria_model.specs.Rows.{times};
 
+use criteria_model::Vector;
 use wide_step::gcd;
 
 /// The greatest common divisor of the values; 0 where each is 0.
@@ -17,4 +20,19 @@ pub fn common_divisor(values: &[i128]) -> i128
         divisor = gcd(divisor, *value);
     }
     divisor
+}
+
+/// The values over a positive number that divides each.
+pub fn divided(values: &[i128], divisor: i128) -> Vector
+    requires vector { IsVector values.now }
+    requires positive { pos 1 ≤ℤ divisor }
+    requires size { unsigned_abs divisor < 2 ^ 126 }
+    requires divides { All (λ x. unsigned_abs divisor ∣ unsigned_abs x) values.now }
+    ensures { values.now ≡ times divisor result }
+{
+    let mut cells = [0; 24];
+    for place in 0..values.len() {
+        cells[place] = values[place] / divisor;
+    }
+    Vector::of(&cells[..values.len()])
 }

@@ -12,7 +12,8 @@ mod solver;
 #[cfg(test)]
 mod tests;
 
-pub use divisor::common_divisor;
+pub use divisor::{common_divisor, divided};
 pub use found::{Clash, Found};
+pub use point::reduced;
 pub use row_weights::{RowWeight, RowWeights};
 pub use solver::solve;

@@ -7,7 +7,7 @@ ghost use Rattle.simplex.specs.Rows.{MeetsRows, HasNoDivisor};
 ghost use Rattle.simplex.specs.Choice.{IsFeasible};
 ghost use Rattle.simplex.specs.Point.{IsScaledPoint};
 
-use crate::divisor::common_divisor;
+use crate::divisor::{common_divisor, divided};
 use criteria_model::Vector;
 use fraction_free::Dictionary;
 
@@ -39,18 +39,13 @@ fn scaled_point(work: &Dictionary) -> Vector
     Vector::of(&cells[..columns])
 }
 
-/// The values over their greatest common divisor.
-fn reduced(values: &[i128]) -> Vector
+/// Positive values over their greatest common divisor.
+pub fn reduced(values: &[i128]) -> Vector
     requires vector { IsVector values.now }
     requires positive { All (λ x. pos 1 ≤ℤ x) values.now }
     ensures reduced { HasNoDivisor result }
     ensures positive { All (λ x. pos 1 ≤ℤ x) result }
     ensures multiple { (factor : ℤ) × (pos 1 ≤ℤ factor) × (values.now ≡ times factor result) }
 {
-    let divisor = common_divisor(values);
-    let mut cells = [0; 24];
-    for place in 0..values.len() {
-        cells[place] = values[place] / divisor;
-    }
-    Vector::of(&cells[..values.len()])
+    divided(values, common_divisor(values))
 }

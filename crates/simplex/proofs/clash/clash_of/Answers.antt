@@ -15,6 +15,8 @@ returns-clause-clash c =
       weights = c.slack_weights.ensures.weights;
       loaded_rows = c.slack_weights.ensures.loaded_rows;
       slacks = c.slack_weights.ensures.sums;
+      few_own = c.increment_weights.ensures.few;
+      few_rows = c.slack_weights.ensures.few;
     })
 
 pub returns-clause-unmet : goal.returns-clause-unmet
@@ -30,4 +32,6 @@ returns-clause-unmet c =
       weights = c.slack_weights.ensures.weights;
       loaded_rows = c.slack_weights.ensures.loaded_rows;
       slacks = c.slack_weights.ensures.sums;
+      few_own = c.increment_weights.ensures.few;
+      few_rows = c.slack_weights.ensures.few;
     })

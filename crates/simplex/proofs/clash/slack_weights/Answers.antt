@@ -3,7 +3,7 @@ use mir.Syntax.{w128}
 use Rattle.fraction_free.specs.Tableau.{IsDictionary}
 use Rattle.simplex.proofs.Sizes.{kept}
 use Rattle.simplex.proofs.Equations.{weight_small}
-use Rattle.simplex.proofs.Slacks.{SlacksSoFar, slacks_none, slacks_more, slacks_done, slack_room, remaining_falls}
+use Rattle.simplex.proofs.Slacks.{SlacksSoFar, slacks_none, slacks_more, slacks_done, slack_room, slacks_few, remaining_falls}
 use Rattle.simplex.proofs.clash.slack_weights.Goals as goal
 
 pub slacks-init : goal.slacks-init
@@ -13,7 +13,7 @@ slacks-init c = subst (SlacksSoFar c.args.work.now (c.args.row - 1) c.from-colum
 pub push-requires-clause-room : goal.push-requires-clause-room
 push-requires-clause-room c =
     let e = c.in-Some.ensures in
-    slack_room c.args.work.now (c.args.row - 1) c.from-columns.result c.slacks.above e.0 c.slacks.rows e.1 c.slacks.invariant
+    slack_room c.args.work.now (c.args.row - 1) c.from-columns.result c.slacks.above e.0 c.slacks.rows c.cols.ensures.dictionary e.1 c.slacks.invariant
 
 pub push-requires-clause-within : goal.push-requires-clause-within
 push-requires-clause-within c =
@@ -36,3 +36,6 @@ slacks-preserved c =
 pub returns-clause-sums : goal.returns-clause-sums
 returns-clause-sums c =
     slacks_done c.args.work.now (c.args.row - 1) c.from-columns.result c.slacks.above c.slacks.rows c.cols.ensures.dictionary (omega arith) c.requires.blocked c.in_default.ensures c.slacks.invariant
+
+pub returns-clause-few : goal.returns-clause-few
+returns-clause-few c = slacks_few c.args.work.now (c.args.row - 1) c.from-columns.result c.slacks.above c.slacks.rows c.slacks.invariant

@@ -1,6 +1,6 @@
 -- The quotients so far.
 use Rattle.std.proofs.Common.{ℕ, ◌≡◌, ◌<◌, length, get_or, pos, ◌*ℤ◌}
-use Rattle.simplex.proofs.point.reduced.Given as goal
+use Rattle.simplex.proofs.divisor.divided.Given as goal
 
 abbrev pub invariant-loop-place : goal.invariant-loop-place
 invariant-loop-place l = record {

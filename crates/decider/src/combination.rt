@@ -1,0 +1,122 @@
+//! The combination that a clash gives.
+ghost use Rattle.std.specs.Prelude.{ℕ, ◌≡◌, ◌+◌, ◌-◌, ◌^◌, ◌<◌, ◌≤◌, ◌∷◌, ◌++◌, length, map, take, All, pos, ◌≤ℤ◌, unsigned_abs};
+ghost use Rattle.std.specs.Int.{◌∣◌};
+ghost use Rattle.farkas_check.specs.Cited.{AreCites};
+ghost use Rattle.simplex.specs.Rows.{HasNoDivisor};
+ghost use Rattle.simplex.specs.Weights.{AreRowWeights};
+ghost use Rattle.decider.specs.Decisions.{numbers_of};
+ghost use Rattle.decider.specs.Combining.{rows_in, AreFrom, TakesRow, TakesRanking, with_cite, CitesRows, IsGreatestDivisor, times_cites, EndsWithTried, Combines};
+
+use crate::cite_list::CiteList;
+use crate::rows::row_count;
+use answer_rows::Answers;
+use criteria_model::{Side, Vector};
+use farkas_check::{Cites, Combination};
+use simplex::{Clash, RowWeight, common_divisor, divided};
+use wide_step::gcd;
+
+/// The combination of a clash with a row that was tried after the rows of the answers: the scale is
+/// that row's weight, each answer has the weight of its rows, and all is over the greatest common divisor.
+pub fn combination_of(answers: &Answers, clash: &Clash) -> Combination
+    requires tried { EndsWithTried answers.now.answers clash.now.rows }
+    requires small { rows_in answers.now.answers ≤ 65536 }
+    ensures combines { Combines answers.now.answers clash.now result }
+    ensures reduced { HasNoDivisor (numbers_of result) }
+    ensures scale { unsigned_abs result.scale < 2 ^ 96 }
+{
+    let weighted = clash.rows.as_slice();
+    let tried = weighted.len() - 1;
+    let scale = weighted[tried].weight;
+    let cites = cited(answers, &weighted[..tried]);
+    let divisor = divisor_of(scale, &clash.increments, &cites);
+    Combination {
+        scale: scale / divisor,
+        increments: divided(clash.increments.as_slice(), divisor),
+        answers: divided_cites(&cites, divisor),
+    }
+}
+
+/// The cites of the answers whose rows are weighted.
+fn cited(answers: &Answers, rows: &[RowWeight]) -> Cites
+    requires rows { AreRowWeights rows.now }
+    requires few { length rows.now ≤ 24 }
+    requires small { rows_in answers.now.answers ≤ 65536 }
+    requires within { All (λ item. item.row ≤ rows_in answers.now.answers) rows.now }
+    ensures { CitesRows answers.now.answers rows.now result }
+{
+    let mut list = CiteList::none();
+    let mut taken = 0;
+    let mut row = 1;
+    for at in 0..answers.len() {
+        let side = answers.answer(at + 1).side;
+        let (weight, more) = ranking_weight(rows, taken, row, side);
+        list.add(at + 1, weight);
+        taken += more;
+        row += row_count(side);
+    }
+    list.cites()
+}
+
+/// What the rows of a ranking weigh, and how many of the weighted rows they are. Its first row has
+/// the number `row`, and the weighted rows after the first `taken` are not before it.
+fn ranking_weight(rows: &[RowWeight], taken: usize, row: u32, side: Side) -> (i128, usize)
+    requires rows { AreRowWeights rows.now }
+    requires numbered { 1 ≤ row }
+    requires small { row < 2 ^ 31 }
+    requires within { taken ≤ length rows.now }
+    requires from { AreFrom rows.now taken row }
+    ensures { TakesRanking rows.now taken row side result.0 result.1 }
+{
+    let (weight, more) = row_weight(rows, taken, row);
+    match side {
+        Side::Equal => {
+            let (turned, others) = row_weight(rows, taken + more, row + 1);
+            (weight - turned, more + others)
+        }
+        _ => (weight, more),
+    }
+}
+
+/// The weight of a row, and how many of the weighted rows it is. Those after the first `taken` are
+/// not before it.
+fn row_weight(rows: &[RowWeight], taken: usize, row: u32) -> (i128, usize)
+    requires rows { AreRowWeights rows.now }
+    requires within { taken ≤ length rows.now }
+    requires from { AreFrom rows.now taken row }
+    ensures { TakesRow rows.now taken row result.0 result.1 }
+{
+    if taken < rows.len() && rows[taken].row == row {
+        (rows[taken].weight, 1)
+    } else {
+        (0, 0)
+    }
+}
+
+/// The greatest common divisor of a positive scale and the weights.
+fn divisor_of(scale: i128, increments: &Vector, cites: &Cites) -> i128
+    requires positive { pos 1 ≤ℤ scale }
+    requires size { unsigned_abs scale < 2 ^ 96 }
+    ensures { IsGreatestDivisor (scale ∷ increments.now ++ map (λ cite. cite.weight) cites.now) result }
+{
+    let weighted = cites.as_slice();
+    let mut divisor = gcd(scale, common_divisor(increments.as_slice()));
+    for cite in weighted {
+        divisor = gcd(divisor, cite.weight);
+    }
+    divisor
+}
+
+/// The cites with their weights over a divisor of each.
+fn divided_cites(cites: &Cites, divisor: i128) -> Cites
+    requires positive { pos 1 ≤ℤ divisor }
+    requires size { unsigned_abs divisor < 2 ^ 126 }
+    requires divides { All (λ cite. unsigned_abs divisor ∣ unsigned_abs cite.weight) cites.now }
+    ensures { cites.now ≡ times_cites divisor result }
+{
+    let weighted = cites.as_slice();
+    let mut list = CiteList::none();
+    for cite in weighted {
+        list.add(cite.answer, cite.weight / divisor);
+    }
+    list.cites()
+}
