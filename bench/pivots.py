@@ -1,7 +1,7 @@
 #!/usr/bin/env python3
 """Works the rows of a dictionary out by exact fractions, through the pivots of fraction_free's test.
 
-Prints, for each step, the lines of the test that compare scale, basic variables, entries and constants.
+Prints the tables of the test, a dictionary's rows after each step, and the lines that compare with them.
 """
 
 from fractions import Fraction
@@ -63,32 +63,48 @@ class Dictionary:
             items.pop()
         self.loaded -= 1
 
-    def show(self):
+    def rows(self):
+        """The rows as they are kept, all times the scale."""
         rows = []
         for variable, line in zip(self.basic, self.lines):
             numbers = [int(x * self.scale) for x in line]
             assert all(n == x * self.scale for n, x in zip(numbers, line))
-            rows.append(f"row({variable}, {numbers[:-1]}, {numbers[-1]})")
-        print(f"    expect(&rt, &work, {self.scale}, {self.nonbasic}, &[{', '.join(rows)}]);")
+            rows.append(
+                f"ExpectedRow {{ basic: {variable}, entries: {numbers[:-1]}, constant: {numbers[-1]} }}"
+            )
+        return rows
+
+
+STEPS = [
+    ("LOADED", ("add", [1, -1, 0], 1), ("add", [-1, 1, 1], 0), ("add", [1, 1, -1], 1)),
+    ("FIRST_PIVOT", ("pivot", 1, 2)),
+    ("SECOND_PIVOT", ("pivot", 3, 1)),
+    ("ROW_ADDED", ("add", [1, 1, 1], 1)),
+    ("THIRD_PIVOT", ("pivot", 4, 3)),
+    ("FOURTH_PIVOT", ("pivot", 1, 1)),
+    ("ROW_DROPPED", ("drop",)),
+    ("LAST_PIVOT", ("pivot", 2, 1)),
+]
 
 
 def main():
     work = Dictionary(3)
-    for coefficients, least in [([1, -1, 0], 1), ([-1, 1, 1], 0), ([1, 1, -1], 1)]:
-        work.add_row(coefficients, least)
-        print(f"    add(&rt, &mut work, &Row::of(&{coefficients}), {least});")
-    work.show()
-    for step in [(1, 2), (3, 1), "add", (4, 3), (1, 1), "drop", (2, 1)]:
-        if step == "add":
-            work.add_row([1, 1, 1], 1)
-            print("    add(&rt, &mut work, &Row::of(&[1, 1, 1]), 1);")
-        elif step == "drop":
-            work.drop_last()
-            print("    drop_row(&rt, &mut work);")
-        else:
-            work.pivot(*step)
-            print(f"    pivot(&rt, &mut work, {step[0]}, {step[1]});")
-        work.show()
+    tables, calls = [], []
+    for name, *steps in STEPS:
+        for what, *numbers in steps:
+            if what == "add":
+                work.add_row(*numbers)
+                calls.append(f"add(&rt, &mut work, &Row::of(&{numbers[0]}), {numbers[1]});")
+            elif what == "pivot":
+                work.pivot(*numbers)
+                calls.append(f"pivot(&rt, &mut work, {numbers[0]}, {numbers[1]});")
+            else:
+                work.drop_last()
+                calls.append("work.drop_last();")
+        rows = work.rows()
+        tables.append(f"const {name}: [ExpectedRow; {len(rows)}] = [{', '.join(rows)}];")
+        calls.append(f"expect(&rt, &work, {work.scale}, {work.nonbasic}, &{name});")
+    print("\n".join(tables + calls))
 
 
 if __name__ == "__main__":

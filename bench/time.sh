@@ -1,13 +1,13 @@
 #!/bin/sh
 # Runs a proved bench program three times with the word `time`.
 #
-# usage: time.sh turn_bench | pivot_bench
+# usage: time.sh turn_bench | pivot_bench | listing_bench | decision_bench
 set -eu
 cd "$(dirname "$0")/.."
 case ${1-} in
-turn_bench | pivot_bench) ;;
+turn_bench | pivot_bench | listing_bench | decision_bench) ;;
 *)
-    echo 'usage: time.sh turn_bench | pivot_bench' >&2
+    echo 'usage: time.sh turn_bench | pivot_bench | listing_bench | decision_bench' >&2
     exit 2
     ;;
 esac

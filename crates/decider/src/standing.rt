@@ -54,3 +54,6 @@ pub fn bring_up(model: &Model, answers: &Answers, work: &mut Dictionary)
         add_rows(model, &answer.pair, answer.side, work);
     }
 }
+
+#[cfg(test)]
+mod tests;

@@ -8,11 +8,11 @@ use Rattle.criteria_model.specs.Rows.{plus, times}
 use Rattle.criteria_model.specs.Answers.{gain}
 use Rattle.farkas_check.specs.declared.cites.Cite.{Cite}
 
--- the side of the cited answer; equal where no such answer is there
+-- the side of the cited answer, whose number is at least 1; equal where the list ends before it
 abbrev pub cited_side : List Answer → Cite → Side
 cited_side answers cite = option_map_or (λ answer. answer.side) (slice_get answers (cite.answer - 1)) Equal
 
--- for each increment, what the winner of the cited answer has more than the loser; nothing where no such answer is there
+-- for each increment, what the winner of the cited answer has more than the loser; nothing where the list ends before it
 abbrev pub cited_gain : List ℕ → List Answer → Cite → List ℤ
 cited_gain levels answers cite = option_map_or (λ answer. gain levels answer.pair answer.side) (slice_get answers (cite.answer - 1)) []
 

@@ -9,6 +9,7 @@ use crate::combination::Combination;
 use answer_rows::{Answer, Answers};
 use criteria_model::{Side, Vector};
 
+/// Whether no increment has a negative weight.
 pub fn has_own_weights(combination: &Combination) -> bool
     ensures { IsTrue result ↔ HasOwnWeights combination.now }
 {
@@ -16,6 +17,7 @@ pub fn has_own_weights(combination: &Combination) -> bool
     weights.iter().all(|weight| *weight >= 0)
 }
 
+/// Whether each cited answer is there.
 pub fn has_cited(answers: &[Answer], combination: &Combination) -> bool
     ensures { IsTrue result ↔ HasCited answers.now combination.now }
 {
@@ -23,6 +25,7 @@ pub fn has_cited(answers: &[Answer], combination: &Combination) -> bool
     cites.iter().all(|cite| cite.answer >= 1 && cite.answer as usize <= answers.len())
 }
 
+/// Whether each cited answer may have its weight.
 pub fn has_weights(answers: &[Answer], combination: &Combination) -> bool
     requires { HasCited answers.now combination.now }
     ensures { IsTrue result ↔ HasWeights answers.now combination.now }
@@ -31,6 +34,7 @@ pub fn has_weights(answers: &[Answer], combination: &Combination) -> bool
     cites.iter().all(|cite| may_weigh(answers, cite))
 }
 
+/// Whether the cited answer may have this weight: only one that is equal may have a negative weight.
 fn may_weigh(answers: &[Answer], cite: &Cite) -> bool
     requires { IsThere answers.now cite.now }
     ensures { IsTrue result ↔ MayWeigh (cited_side answers.now cite.now) cite.now.weight }
@@ -41,6 +45,7 @@ fn may_weigh(answers: &[Answer], cite: &Cite) -> bool
     }
 }
 
+/// Whether something strict has a positive weight exactly where the verdict wants it.
 pub fn is_strict_enough(answers: &[Answer], combination: &Combination, verdict: Side) -> bool
     requires { HasCited answers.now combination.now }
     ensures { IsTrue result ↔ IsStrictEnough answers.now combination.now verdict }
@@ -52,6 +57,7 @@ pub fn is_strict_enough(answers: &[Answer], combination: &Combination, verdict: 
     }
 }
 
+/// Whether some increment, or some answer that isn't equal, has a positive weight.
 fn has_strict(answers: &[Answer], combination: &Combination) -> bool
     requires { HasCited answers.now combination.now }
     ensures { IsTrue result ↔ HasStrict answers.now combination.now }
@@ -61,6 +67,7 @@ fn has_strict(answers: &[Answer], combination: &Combination) -> bool
     weights.iter().any(|weight| *weight > 0) || cites.iter().any(|cite| is_strict(answers, cite))
 }
 
+/// Whether the cited answer isn't equal, and its weight is positive.
 fn is_strict(answers: &[Answer], cite: &Cite) -> bool
     requires { IsThere answers.now cite.now }
     ensures { IsTrue result ↔ IsStrict (cited_side answers.now cite.now) cite.now.weight }

@@ -1,5 +1,5 @@
 -- A row more keeps what a dictionary keeps.
-use Rattle.std.proofs.Common.{◌≡◌, ◌≢◌, ◌∙◌, ◌⊎◌, inl, inr, ℕ, zero, suc, ◌+◌, ◌-◌, ◌<◌, ◌≤◌, ◌^◌, ℤ, pos, ◌+ℤ◌, ◌*ℤ◌, ◌≤ℤ◌, unsigned_abs, List, [], ◌∷◌, ◌++◌, length, take, drop, map, get_or, sym, ap, subst, refl, arith}
+use Rattle.std.proofs.Common.{◌≡◌, ◌∙◌, ◌⊎◌, inl, inr, ℕ, suc, ◌+◌, ◌-◌, ◌<◌, ◌≤◌, ℤ, ◌*ℤ◌, List, [], ◌∷◌, ◌++◌, length, take, drop, map, get_or, sym, ap, subst, refl, arith}
 use Rattle.std.proofs.lemmas.List.{get_or_append_left, get_or_at, length_push, take-append-le, drop-append-le, length-take-le, get_or-take}
 use Rattle.std.proofs.lemmas.Bool.{cases_eq, cases_lt}
 use Rattle.minors.specs.Combination.{IsCombination, IsScale}
@@ -9,9 +9,9 @@ use Rattle.fraction_free.specs.declared.loaded.LoadedRow.{LoadedRow}
 use Rattle.fraction_free.specs.Arrangement.{IsArrangement, Arranged}
 use Rattle.fraction_free.specs.Changes.{AddsRow, next_count}
 use Rattle.fraction_free.specs.Tableau.{Tableau, IsLoadable, HasSlacks, Satisfies, loaded_at, no_row, slack_of}
-use Rattle.fraction_free.specs.Representation.{unit, row_of, table_row, square_of, tableau_of, IsMinorTableau, IsKept, CanCombine}
+use Rattle.fraction_free.specs.Representation.{row_of, table_row, square_of, tableau_of, IsMinorTableau, IsKept, CanCombine}
 use Rattle.fraction_free.proofs.Table.{table_row-constant, table_row-increment, table_row-slack}
-use Rattle.fraction_free.proofs.Values.{combination_value, slack_value, point_of}
+use Rattle.fraction_free.proofs.Values.{combination_value, slack_value}
 use Rattle.fraction_free.proofs.Kept.{line_len, number_fits, scale_fits}
 use Rattle.fraction_free.proofs.PivotKept.{Equations, equations_of, satisfies_from}
 

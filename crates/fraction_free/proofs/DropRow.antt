@@ -1,18 +1,18 @@
 -- Rows that change places, and the last row gone, keep what a dictionary keeps.
-use Rattle.std.proofs.Common.{◌≡◌, ◌≢◌, ◌∙◌, ◌⊎◌, inl, inr, ℕ, zero, suc, ◌+◌, ◌-◌, ◌<◌, ◌≤◌, cond, eqb, ℤ, pos, ◌+ℤ◌, ◌-ℤ◌, ◌*ℤ◌, List, [], ◌∷◌, ◌++◌, length, take, drop, map, get_or, set, sym, ap, subst, refl, arith}
+use Rattle.std.proofs.Common.{◌≡◌, ◌≢◌, ◌∙◌, ◌⊎◌, inl, inr, ℕ, suc, ◌+◌, ◌-◌, ◌<◌, ◌≤◌, cond, eqb, ℤ, pos, ◌+ℤ◌, ◌-ℤ◌, ◌*ℤ◌, List, [], ◌∷◌, length, take, map, get_or, set, sym, ap, subst, refl, arith}
 use Rattle.std.proofs.lemmas.List.{length-take-le, get_or-take, take-set-le, take-take}
 use Rattle.std.proofs.lemmas.Bool.{cases_eq, cases_lt}
 use Rattle.std.proofs.lemmas.List.FromFn.{length-range_with_len, get_or-range_with_len}
 use Rattle.std.proofs.lemmas.Bool.Decides.{nat_tests}
 use Rattle.std.specs.List.{SwappedAt, range_with_len}
-use Rattle.minors.specs.Combination.{IsCombination, IsScale}
+use Rattle.minors.specs.Combination.{IsScale}
 use Rattle.minors.specs.Combination.{dot as dot_of}
 use Rattle.minors.proofs.Ring.{cancel, mul-add, mul_swap, mul_zero, zero_mul, mul-sub, sums}
 use Rattle.criteria_model.specs.Rows.{dot}
 use Rattle.fraction_free.specs.declared.loaded.LoadedRow.{LoadedRow}
 use Rattle.fraction_free.specs.Arrangement.{IsArrangement, Arranged}
-use Rattle.fraction_free.specs.Tableau.{Tableau, IsLoadable, HasSlacks, Satisfies, loaded_at, no_row, slack_of, vector_of}
-use Rattle.fraction_free.specs.Representation.{table_row, square_of, tableau_of, IsMinorTableau, IsKept}
+use Rattle.fraction_free.specs.Tableau.{IsLoadable, HasSlacks, loaded_at, no_row, slack_of, vector_of}
+use Rattle.fraction_free.specs.Representation.{table_row, square_of, IsMinorTableau, IsKept}
 use Rattle.fraction_free.proofs.Values.{same_dot}
 use Rattle.fraction_free.proofs.AddRow.{BeginsWith, table_row_same, square_same, moved}
 use Rattle.fraction_free.proofs.PivotKept.{Equations, equations_of, satisfies_from}

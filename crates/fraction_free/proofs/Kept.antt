@@ -1,20 +1,18 @@
 -- What every dictionary keeps gives what callers see of it.
-use Rattle.std.proofs.Common.{◌≡◌, ◌∙◌, ◌↔◌, ◌≢◌, inl, inr, lit<, ◌^◌, ◌-ℤ◌, set, ℕ, ◌+◌, ◌*◌, ◌<◌, ◌≤◌, ℤ, pos, ◌*ℤ◌, unsigned_abs, List, [], ◌∷◌, ◌++◌, length, take, drop, map, get_or, sym, ap, subst, refl, arith}
-use Rattle.std.proofs.lemmas.List.{length-map, length-take-le, length-drop, get_or-drop, take_more, take-append-drop, drop_more, get_or_read, get_or_past, length-set, get_or-set_same, get_or-set_other}
+use Rattle.std.proofs.Common.{◌≡◌, ◌∙◌, ◌≢◌, inl, inr, lit<, ◌^◌, ◌-ℤ◌, set, ℕ, ◌+◌, ◌<◌, ◌≤◌, ℤ, pos, ◌*ℤ◌, unsigned_abs, List, [], ◌∷◌, ◌++◌, length, take, drop, map, get_or, sym, ap, subst, arith}
+use Rattle.std.proofs.lemmas.List.{length-take-le, length-drop, get_or-drop, take_more, take-append-drop, drop_more, get_or_read, get_or_past, length-set, get_or-set_same, get_or-set_other}
 use Rattle.std.proofs.lemmas.Bool.{cases_eq, cases_lt}
 use Rattle.std.specs.List.{All}
 use Rattle.wide_step.specs.Quotient.{HasQuotient}
-use Rattle.minors.specs.Minor.{entry, minor, factorial, HasSmallEntries}
-use Rattle.minors.specs.Combination.{IsCombination, IsScale}
-use Rattle.minors.specs.Combination.{dot as dot_of}
+use Rattle.minors.specs.Minor.{entry, minor, HasSmallEntries}
 use Rattle.minors.proofs.Laws.{factor_is_bounded, minor_is_bounded, scale_is_bounded, bound_is_small, pivot_divides}
 use Rattle.criteria_model.specs.Rows.{dot}
 use Rattle.fraction_free.specs.declared.loaded.LoadedRow.{LoadedRow}
 use Rattle.fraction_free.specs.Arrangement.{IsArrangement, Arranged}
-use Rattle.fraction_free.specs.Tableau.{Tableau, IsDictionary, IsLoadable, HasSlacks, Satisfies, loaded_at, line_of, column_variables, most_size}
+use Rattle.fraction_free.specs.Tableau.{IsDictionary, HasSlacks, Satisfies, most_size}
 use Rattle.fraction_free.specs.Representation.{table_row, square_of, tableau_of, IsMinorTableau, IsKept, CanExchange}
 use Rattle.fraction_free.proofs.Table.{square_small, length-square, table_row_small}
-use Rattle.fraction_free.proofs.Values.{same_dot, combination_value, variable_value, point_of}
+use Rattle.fraction_free.proofs.Values.{same_dot, combination_value, variable_value}
 
 -- the variables of the columns and of the constant are the first of the order
 pub columns_and_constant : (m : ℕ) (order : List ℕ) → m < length order → get_or order m 0 ≡ 0 → take m order ++ 0 ∷ [] ≡ take (m + 1) order
@@ -109,7 +107,7 @@ All-set P xs k y all here i d below =
 pub can_exchange : (m : ℕ) (l : List LoadedRow) (s : ℤ) (order : List ℕ) (lines : List (List ℤ)) (at column : ℕ) → IsMinorTableau m l s order lines → at < length l → column < m
     → entry (get_or lines at []) column ≢ pos 0 → CanExchange s at column lines
 can_exchange m l s order lines at column t at_in below nonzero = record {
-  scale_nonzero = t.scale_is.nonzero;
+  positive = t.positive;
   scale_size = scale_fits m l s order lines t;
   len = λ row inside. line_len m l s order lines row t (omega (arith, t.lines_len)) ∙ sym (line_len m l s order lines at t at_in);
   column_below = omega (arith, line_len m l s order lines at t at_in);

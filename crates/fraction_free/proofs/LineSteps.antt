@@ -1,7 +1,10 @@
 -- How far the loops over a line have come.
-use Rattle.std.proofs.Common.{◌≡◌, ◌≢◌, ◌∙◌, inl, inr, ℕ, ◌+◌, ◌-◌, ◌<◌, ◌≤◌, ℤ, pos, neg_ℤ, ◌+ℤ◌, ◌-ℤ◌, ◌*ℤ◌, List, [], length, get_or, set, sym, ap, subst, refl, arith}
+use Rattle.std.proofs.Common.{◌≡◌, ◌≢◌, ◌∙◌, inl, inr, ℕ, ◌+◌, ◌<◌, ◌≤◌, ℤ, pos, neg_ℤ, ◌-ℤ◌, ◌*ℤ◌, List, [], length, get_or, set, sym, ap, subst, refl, arith}
 use Rattle.std.proofs.lemmas.List.{length-set, get_or-set_same, get_or-set_other}
 use Rattle.std.proofs.lemmas.Bool.{cases_eq}
+use Rattle.std.proofs.lemmas.Int.{ints}
+use Rattle.std.proofs.Math.IntN.{*ℤ_comm, zero-*ℤ}
+use Rattle.fraction_free.proofs.Signs.{with_sign-twice, with_sign-zero, with_sign-difference}
 use Rattle.fraction_free.specs.Changes.{with_sign, number_at, IsOtherLine, IsPivotLine, IsExchangedAt}
 
 -- the numbers before a place are those after a pivot on another row, but for the column's, and the others are as they were
@@ -15,22 +18,48 @@ pub record IsExchangedTo (scale : ℤ) (column : ℕ) (pivot old now : List ℤ)
 pub exchanged_none : (scale : ℤ) (column : ℕ) (pivot old : List ℤ) → IsExchangedTo scale column pivot old old 0
 exchanged_none scale column pivot old = record { len = refl; divided = λ other below apart. absurd (omega arith); rest = λ other h. refl; column_kept = refl }
 
-pub exchanged_more : (scale : ℤ) (column : ℕ) (pivot old now new : List ℤ) (place : ℕ) → IsExchangedTo scale column pivot old now place → place ≢ column
-    → IsExchangedAt scale column pivot now new place → IsExchangedTo scale column pivot old new (place + 1)
-exchanged_more scale column pivot old now new place h apart e = record {
-  len = e.len ∙ h.len;
-  divided = λ other below not_column.
-      elim (cases_eq other place) [
-        | inl same ↦
-            ap (λ k. number_at new k *ℤ scale) same ∙ e.divided
-            ∙ ap (λ (n : ℤ). with_sign (number_at pivot column) (number_at pivot column *ℤ n -ℤ number_at now column *ℤ number_at pivot place)) (h.rest place (omega arith))
-            ∙ ap (λ (n : ℤ). with_sign (number_at pivot column) (number_at pivot column *ℤ number_at old place -ℤ n *ℤ number_at pivot place)) h.column_kept
-            ∙ ap (λ k. with_sign (number_at pivot column) (number_at pivot column *ℤ number_at old k -ℤ number_at old column *ℤ number_at pivot k)) (sym same)
-        | inr other_place ↦ ap (λ (n : ℤ). n *ℤ scale) (e.others other other_place) ∙ h.divided other (omega arith) not_column
-      ];
-  rest = λ other above. e.others other (omega arith) ∙ h.rest other (omega arith);
-  column_kept = e.others column (λ same. apart (sym same)) ∙ h.column_kept;
-}
+pub exchanged_more : (scale : ℤ) (column : ℕ) (pivot old now new : List ℤ) (place : ℕ) (entry factor other : ℤ) → IsExchangedTo scale column pivot old now place → place ≢ column
+    → entry ≡ with_sign (number_at pivot column) (number_at pivot column) → factor ≡ with_sign (number_at pivot column) (number_at old column) → other ≡ number_at pivot place
+    → IsExchangedAt scale entry factor other now new place → IsExchangedTo scale column pivot old new (place + 1)
+exchanged_more scale column pivot old now new place entry factor number h apart i j k e =
+    let p = number_at pivot column in
+    let here : number_at new place *ℤ scale ≡ with_sign p (p *ℤ number_at old place -ℤ number_at old column *ℤ number_at pivot place) =
+    e.divided ∙ products entry factor number (number_at now place) _ _ _ _ i j k (h.rest place (omega arith))
+    ∙ with_sign-difference p (number_at old place) (number_at old column) (number_at pivot place) in
+    record {
+      len = e.len ∙ h.len;
+      divided = λ other below not_column.
+          elim (cases_eq other place) [
+            | inl same ↦
+                ap (λ at. number_at new at *ℤ scale) same ∙ here
+                ∙ ap (λ at. with_sign p (p *ℤ number_at old at -ℤ number_at old column *ℤ number_at pivot at)) (sym same)
+            | inr other_place ↦ ap (λ (n : ℤ). n *ℤ scale) (e.others other other_place) ∙ h.divided other (omega arith) not_column
+          ];
+      rest = λ other above. e.others other (omega arith) ∙ h.rest other (omega arith);
+      column_kept = e.others column (λ same. apart (sym same)) ∙ h.column_kept;
+    }
+  where
+    products : (a c d b w x y z : ℤ) → a ≡ w → c ≡ x → d ≡ y → b ≡ z → a *ℤ b -ℤ c *ℤ d ≡ w *ℤ z -ℤ x *ℤ y
+    products a c d b w x y z f g i j = rw (f, g, i, j) refl
+
+-- a line with a 0 in the pivot's column stays, where the entry is the old scale up to its sign
+pub stays : (scale : ℤ) (column : ℕ) (pivot old : List ℤ) → with_sign (number_at pivot column) (number_at pivot column) ≡ scale
+    → with_sign (number_at pivot column) (number_at old column) ≡ pos 0 → IsOtherLine scale column pivot old old
+stays scale column pivot old entry factor =
+    let p = number_at pivot column in
+    let f = number_at old column in
+    let none : f ≡ pos 0 = sym (with_sign-twice p f) ∙ ap (with_sign p) factor ∙ with_sign-zero p in
+    record {
+      len = refl;
+      kept = none ∙ sym factor;
+      divided = λ other inside apart.
+          let x = number_at old other in
+          let y = number_at pivot other in
+          alone scale x y ∙ ap (λ (n : ℤ). n *ℤ x -ℤ pos 0 *ℤ y) (sym entry) ∙ ap (λ (n : ℤ). with_sign p p *ℤ x -ℤ n *ℤ y) (sym factor) ∙ with_sign-difference p x f y;
+    }
+  where
+    alone : (s x y : ℤ) → x *ℤ s ≡ s *ℤ x -ℤ pos 0 *ℤ y
+    alone s x y = omega (arith, ints, *ℤ_comm x s, zero-*ℤ y)
 
 pub exchanged_past_column : (scale : ℤ) (column : ℕ) (pivot old now : List ℤ) (place : ℕ) → IsExchangedTo scale column pivot old now place → place ≡ column → IsExchangedTo scale column pivot old now (place + 1)
 exchanged_past_column scale column pivot old now place h same = record {
@@ -40,13 +69,15 @@ exchanged_past_column scale column pivot old now place h same = record {
   column_kept = h.column_kept;
 }
 
-pub exchanged_all : (scale : ℤ) (column : ℕ) (pivot old now : List ℤ) (place : ℕ) → IsExchangedTo scale column pivot old now place → length old ≤ place → column < length old
-    → IsOtherLine scale column pivot old (set now column (with_sign (number_at pivot column) (number_at now column)))
-exchanged_all scale column pivot old now place h all below = record {
-  len = length-set now column _ ∙ h.len;
-  kept = get_or-set_same now column _ (pos 0) (omega (arith, h.len)) ∙ ap (with_sign (number_at pivot column)) h.column_kept;
-  divided = λ other inside apart. ap (λ (n : ℤ). n *ℤ scale) (get_or-set_other now column other _ (pos 0) apart) ∙ h.divided other (omega arith) apart;
-}
+pub exchanged_all : (scale : ℤ) (column : ℕ) (pivot old now new : List ℤ) (place : ℕ) (factor : ℤ) → IsExchangedTo scale column pivot old now place → length old ≤ place → column < length old
+    → factor ≡ with_sign (number_at pivot column) (number_at old column) → new ≡ set now column factor → IsOtherLine scale column pivot old new
+exchanged_all scale column pivot old now new place factor h all below value is =
+    subst (λ (ns : List ℤ). IsOtherLine scale column pivot old ns) (sym is)
+    (record {
+      len = length-set now column factor ∙ h.len;
+      kept = get_or-set_same now column factor (pos 0) (omega (arith, h.len)) ∙ value;
+      divided = λ other inside apart. ap (λ (n : ℤ). n *ℤ scale) (get_or-set_other now column other factor (pos 0) apart) ∙ h.divided other (omega arith) apart;
+    })
 
 -- the same on the pivot's row
 pub record IsLeftTo (column : ℕ) (old now : List ℤ) (place : ℕ) : Type 0 where

@@ -1,7 +1,7 @@
 -- A pivot keeps what a dictionary keeps.
-use Rattle.std.proofs.Common.{◌≡◌, ◌≢◌, ◌∙◌, ◌⊎◌, inl, inr, ℕ, zero, suc, ◌+◌, ◌-◌, ◌<◌, ◌≤◌, ◌^◌, unsigned_abs, to_z, of_z, ℤ, pos, ◌+ℤ◌, ◌*ℤ◌, ◌≤ℤ◌, List, [], ◌∷◌, ◌++◌, length, take, drop, map, get_or, set, sym, ap, subst, refl, arith}
+use Rattle.std.proofs.Common.{◌≡◌, ◌≢◌, ◌∙◌, ◌⊎◌, inl, inr, ℕ, zero, suc, ◌+◌, ◌<◌, ◌≤◌, ◌^◌, unsigned_abs, to_z, of_z, ℤ, pos, ◌+ℤ◌, ◌*ℤ◌, ◌≤ℤ◌, List, [], ◌∷◌, length, take, drop, map, get_or, set, sym, ap, subst, refl, arith}
 use Rattle.std.proofs.Math.Seq.{take-set-lt}
-use Rattle.std.proofs.lemmas.List.{take-set-le, drop-set-lt, drop-set-add, map-set, length-set, length-map, length-take-le, length-drop, get_or-drop, get_or-take, set-set, set-get_or, get_or-set_other, get_or-map}
+use Rattle.std.proofs.lemmas.List.{take-set-le, drop-set-lt, drop-set-add, map-set, length-map, length-take-le, length-drop, get_or-drop, get_or-take, set-set, set-get_or, get_or-map}
 use Rattle.std.proofs.lemmas.Bool.{cases_eq}
 use Rattle.std.proofs.lemmas.List.Edits.{length-swap, swap_is, swapped_from_swap}
 use Rattle.std.specs.List.{SwappedAt, swap}
@@ -21,7 +21,7 @@ use Rattle.fraction_free.specs.Representation.{table_row, square_of, tableau_of,
 use Rattle.fraction_free.proofs.Table.{square_at, length-square}
 use Rattle.fraction_free.proofs.Values.{same_dot}
 use Rattle.fraction_free.proofs.Kept.{columns_and_constant, line_len}
-use Rattle.fraction_free.proofs.Signs.{with_sign-self, with_sign-abs, turn, turn_at, turned_scale, combination_of_turned, turned_of_combination, pivoted_of, leaving_of, pivoted_back, leaving_back}
+use Rattle.fraction_free.proofs.Signs.{with_sign-self, with_sign-abs, turn, turned_scale, combination_of_turned, turned_of_combination, pivoted_of, leaving_of, pivoted_back, leaving_back}
 
 -- what a pivot on a row and a column does to scale, order and lines
 pub record IsExchange (m : ℕ) (s : ℤ) (order : List ℕ) (lines : List (List ℤ)) (new_s : ℤ) (new_order : List ℕ) (new_lines : List (List ℤ)) (row column : ℕ) : Type 0 where

@@ -1,5 +1,5 @@
 -- Numbers, rows and combinations whose signs are turned together.
-use Rattle.std.proofs.Common.{◌≡◌, ◌≢◌, ◌∙◌, ◌⊎◌, inl, inr, ℕ, zero, suc, ◌+◌, ◌-◌, ◌<◌, ◌≤◌, ℤ, pos, negsuc, neg_ℤ, ◌+ℤ◌, ◌-ℤ◌, ◌*ℤ◌, ◌≤ℤ◌, unsigned_abs, List, [], ◌∷◌, ◌++◌, length, map, get_or, set, sym, ap, subst, refl, arith}
+use Rattle.std.proofs.Common.{◌≡◌, ◌≢◌, ◌∙◌, ℕ, zero, suc, ◌<◌, ℤ, pos, negsuc, neg_ℤ, ◌-ℤ◌, ◌*ℤ◌, ◌≤ℤ◌, unsigned_abs, List, [], ◌∷◌, length, map, get_or, sym, ap, subst, refl, arith}
 use Rattle.std.proofs.lemmas.List.{map-id, length-map}
 use Rattle.std.proofs.lemmas.Int.{ints}
 use Rattle.std.proofs.Math.ListN.{get_or-map as get_or-map_default}
@@ -8,7 +8,7 @@ use Rattle.minors.specs.Combination.{IsCombination, IsScale, IsPivoted as IsPivo
 use Rattle.minors.proofs.Laws.{negated_combination, negated_scale}
 use Rattle.minors.proofs.Ring.{sums, neg-mul, mul-neg}
 use Rattle.std.proofs.Math.IntN.{*ℤ_comm}
-use Rattle.fraction_free.specs.Changes.{with_sign, number_at, IsOtherLine, IsPivotLine}
+use Rattle.fraction_free.specs.Changes.{with_sign, IsOtherLine, IsPivotLine}
 
 pub with_sign-twice : (p y : ℤ) → with_sign p (with_sign p y) ≡ y
 with_sign-twice (pos n) y = refl
@@ -21,6 +21,11 @@ with_sign-zero (negsuc n) = refl
 pub with_sign-mul : (p y s : ℤ) → with_sign p y *ℤ s ≡ with_sign p (y *ℤ s)
 with_sign-mul (pos n) y s = refl
 with_sign-mul (negsuc n) y s = neg-mul y s
+
+-- the sign goes into the first factor of each product
+pub with_sign-difference : (p x f y : ℤ) → with_sign p p *ℤ x -ℤ with_sign p f *ℤ y ≡ with_sign p (p *ℤ x -ℤ f *ℤ y)
+with_sign-difference (pos n) x f y = refl
+with_sign-difference (negsuc n) x f y = let h = neg-mul (negsuc n) x in let k = neg-mul f y in omega (arith, sums)
 
 pub with_sign-abs : (p y : ℤ) → unsigned_abs (with_sign p y) ≡ unsigned_abs y
 with_sign-abs (pos n) y = refl

@@ -1,7 +1,7 @@
 -- The line of a new row, variable by variable.
-use Rattle.std.proofs.Common.{◌≡◌, ◌≢◌, ◌∙◌, ◌⊎◌, inl, inr, lit<, ℕ, zero, suc, ◌+◌, ◌-◌, ◌*◌, ◌<◌, ◌≤◌, ◌^◌, cond, eqb, ltb, ℤ, pos, ◌+ℤ◌, ◌*ℤ◌, unsigned_abs, List, [], ◌∷◌, ◌++◌, length, take, map, get_or, set, replicate, sym, ap, subst, refl, arith}
+use Rattle.std.proofs.Common.{◌≡◌, ◌≢◌, ◌∙◌, ◌⊎◌, inl, inr, lit<, ℕ, ◌+◌, ◌-◌, ◌*◌, ◌<◌, ◌≤◌, ◌^◌, cond, eqb, ltb, ℤ, pos, ◌+ℤ◌, ◌*ℤ◌, unsigned_abs, List, [], length, map, get_or, set, replicate, sym, ap, subst, refl, arith}
 use Rattle.std.proofs.lemmas.List.{length-set, length-replicate, get_or-replicate, get_or-set_same, get_or-set_other, get_or_past}
-use Rattle.std.proofs.lemmas.List.FromFn.{get_or-map-range_with_len, length-map-range_with_len}
+use Rattle.std.proofs.lemmas.List.FromFn.{get_or-map-range_with_len}
 use Rattle.std.proofs.lemmas.Bool.{cases_eq, cases_lt}
 use Rattle.std.proofs.lemmas.Int.{unsigned_abs-mul}
 use Rattle.std.proofs.lemmas.Nat.{mul-le}
@@ -10,13 +10,11 @@ use Rattle.std.proofs.lemmas.Bool.Decides.{nat_tests}
 use Rattle.std.specs.List.{range_with_len}
 use Rattle.minors.specs.Minor.{entry}
 use Rattle.minors.specs.Combination.{IsCombination, column_of}
-use Rattle.minors.specs.Combination.{dot as dot_of}
 use Rattle.minors.proofs.Laws.{sum_of_combinations, square_row_is_combination}
-use Rattle.minors.proofs.Total.{total, dot_is_total, total_zero, total_same}
-use Rattle.minors.proofs.Ring.{sums, mul_zero, one_mul, zero_mul, abs-add}
+use Rattle.minors.proofs.Total.{dot_is_total, total_zero, total_same}
+use Rattle.minors.proofs.Ring.{sums, mul_zero, one_mul, abs-add}
 use Rattle.fraction_free.specs.declared.loaded.LoadedRow.{LoadedRow}
 use Rattle.fraction_free.specs.Changes.{number_at}
-use Rattle.fraction_free.specs.Tableau.{IsLoadable}
 use Rattle.fraction_free.specs.Representation.{unit, slack_constant, row_of, table_row, square_of, IsMinorTableau, factors_at, IsAdded}
 use Rattle.fraction_free.proofs.Table.{unit_one, unit_zero, table_row-increment, table_row-constant, length-square, square_at, row_of_last, row_of_plain}
 

@@ -1,19 +1,16 @@
 -- The table of a dictionary's variables: its rows, their sizes, and their values at an assignment.
-use Rattle.std.proofs.Common.{◌≡◌, ◌≢◌, ◌∙◌, ◌⊎◌, inl, inr, ℕ, zero, suc, ◌+◌, ◌-◌, ◌*◌, ◌<◌, ◌≤◌, cond, eqb, ℤ, pos, neg_ℤ, ◌+ℤ◌, ◌-ℤ◌, ◌*ℤ◌, unsigned_abs, List, [], ◌∷◌, ◌++◌, length, take, drop, map, get_or, fold, sym, ap, subst, refl, arith}
-use Rattle.std.proofs.lemmas.List.{get_or_past, get_or_append_left, get_or_at, get_or-map, length_push, length-map, length-take-le, get_or-take, get_or_default}
-use Rattle.std.proofs.lemmas.List.FromFn.{get_or-map-range_with_len, length-map-range_with_len, length-range_with_len, get_or-range_with_len}
-use Rattle.std.proofs.lemmas.List.Elements.{All-cons}
+use Rattle.std.proofs.Common.{◌≡◌, ◌≢◌, ◌∙◌, ◌⊎◌, inl, inr, ℕ, suc, ◌+◌, ◌-◌, ◌<◌, ◌≤◌, cond, eqb, ℤ, pos, neg_ℤ, ◌+ℤ◌, unsigned_abs, List, [], ◌∷◌, length, take, get_or, fold, sym, ap, subst, refl, arith}
+use Rattle.std.proofs.lemmas.List.{get_or_append_left, get_or_at, get_or-map, length-map, length-take-le, get_or-take}
+use Rattle.std.proofs.lemmas.List.FromFn.{get_or-map-range_with_len, length-map-range_with_len}
 use Rattle.std.proofs.lemmas.Bool.{cases_eq, cases_lt}
 use Rattle.std.proofs.lemmas.Bool.Decides.{nat_tests}
-use Rattle.std.proofs.lemmas.Int.{ints}
-use Rattle.std.specs.List.{range_with_len, All}
+use Rattle.std.specs.List.{All}
 use Rattle.minors.specs.Minor.{entry, IsUnit, HasSmallEntries}
-use Rattle.minors.proofs.Ring.{abs-add, abs-neg}
-use Rattle.criteria_model.specs.Lists.{IsRow}
+use Rattle.minors.proofs.Ring.{abs-add}
 use Rattle.fraction_free.specs.declared.loaded.LoadedRow.{LoadedRow}
 use Rattle.fraction_free.specs.Arrangement.{IsArrangement}
-use Rattle.fraction_free.specs.Tableau.{IsLoadable, loaded_at, no_row}
-use Rattle.fraction_free.specs.Representation.{unit, slack_constant, row_of, table_row, square_of, IsMinorTableau}
+use Rattle.fraction_free.specs.Tableau.{IsLoadable, loaded_at}
+use Rattle.fraction_free.specs.Representation.{unit, slack_constant, row_of, table_row, square_of}
 
 pub table_row-constant : (m : ℕ) (l : List LoadedRow) → table_row m l 0 ≡ unit (m + 1) m
 table_row-constant m l = refl

@@ -1,24 +1,22 @@
 -- The values of the table's rows at an assignment: those of the variables, where the slacks are those of the loaded rows.
-use Rattle.std.proofs.Common.{◌≡◌, ◌≢◌, ◌∙◌, ◌⊎◌, inl, inr, ℕ, zero, suc, ◌+◌, ◌-◌, ◌*◌, ◌<◌, ◌≤◌, ℤ, pos, neg_ℤ, ◌+ℤ◌, ◌-ℤ◌, ◌*ℤ◌, List, [], ◌∷◌, ◌++◌, length, take, drop, map, get_or, fold, sym, ap, subst, refl, arith}
-use Rattle.std.proofs.lemmas.List.{get_or_append_left, get_or_at, get_or-map, length_push, length-map, length-take-le, get_or-take, ext_get_or}
+use Rattle.std.proofs.Common.{◌≡◌, ◌∙◌, inl, inr, ℕ, suc, ◌+◌, ◌-◌, ◌<◌, ◌≤◌, ℤ, pos, neg_ℤ, ◌+ℤ◌, ◌-ℤ◌, ◌*ℤ◌, List, [], ◌∷◌, ◌++◌, length, take, map, get_or, fold, sym, ap, refl, arith}
+use Rattle.std.proofs.lemmas.List.{get_or_append_left, get_or_at, length_push, length-take-le, get_or-take}
 use Rattle.std.proofs.lemmas.List.FromFn.{get_or-map-range_with_len, length-map-range_with_len, length-range_with_len}
 use Rattle.std.proofs.lemmas.Bool.{cases_eq, cases_lt}
-use Rattle.std.proofs.lemmas.Int.{ints}
 use Rattle.std.specs.List.{range_with_len}
-use Rattle.std.proofs.Math.IntN.{*ℤ_comm}
 use Rattle.minors.specs.Minor.{entry}
-use Rattle.minors.specs.Combination.{IsCombination, IsScale}
+use Rattle.minors.specs.Combination.{IsCombination}
 use Rattle.minors.specs.Combination.{dot as dot_of}
-use Rattle.minors.proofs.Total.{total, dot_is_total, total_single, total_same, total_linear}
+use Rattle.minors.proofs.Total.{dot_is_total, total_single}
 use Rattle.minors.proofs.Laws.{combination_at_point}
-use Rattle.minors.proofs.Ring.{sums, cancel, mul-add, add-mul, neg-mul, mul-neg, zero_mul, one_mul}
+use Rattle.minors.proofs.Ring.{sums, mul-add, add-mul, neg-mul, one_mul}
 use Rattle.criteria_model.specs.Rows.{dot}
 use Rattle.criteria_model.proofs.RowLemmas.{dot-append}
 use Rattle.fraction_free.specs.declared.loaded.LoadedRow.{LoadedRow}
 use Rattle.fraction_free.specs.Arrangement.{IsArrangement}
-use Rattle.fraction_free.specs.Tableau.{IsLoadable, HasSlacks, loaded_at, no_row, slack_of, vector_of}
-use Rattle.fraction_free.specs.Representation.{unit, slack_constant, row_of, table_row, square_of, IsMinorTableau}
-use Rattle.fraction_free.proofs.Table.{by_kind, unit_one, unit_zero, length-unit, table_row-increment, table_row-slack, table_row-constant, length-square}
+use Rattle.fraction_free.specs.Tableau.{IsLoadable, HasSlacks, loaded_at, slack_of, vector_of}
+use Rattle.fraction_free.specs.Representation.{unit, slack_constant, row_of, table_row, square_of}
+use Rattle.fraction_free.proofs.Table.{unit_one, unit_zero, table_row-increment, table_row-slack, length-square}
 
 pub same_dot : (xs ys : List ℤ) → dot xs ys ≡ dot_of xs ys
 same_dot [] ys = refl

@@ -1,5 +1,5 @@
 -- What the calls make of a dictionary.
-use Rattle.std.specs.Prelude.{ℕ, ◌+◌, ◌-◌, ◌^◌, ◌≡◌, ◌≢◌, ◌<◌, ◌≤◌, min, List, [], ◌∷◌, ◌++◌, length, take, slice_index, slice_index_or, slice_set, ℤ, pos, negsuc, neg_ℤ, ◌-ℤ◌, ◌*ℤ◌}
+use Rattle.std.specs.Prelude.{ℕ, ◌+◌, ◌-◌, ◌^◌, ◌≡◌, ◌≢◌, ◌<◌, min, List, [], ◌∷◌, ◌++◌, length, take, slice_index, slice_index_or, slice_set, ℤ, pos, negsuc, neg_ℤ, ◌-ℤ◌, ◌*ℤ◌}
 use Rattle.std.specs.List.{range_with_len}
 use Rattle.fraction_free.specs.declared.loaded.LoadedRow.{LoadedRow}
 use Rattle.fraction_free.specs.Tableau.{Tableau, line_of}
@@ -77,12 +77,11 @@ pub record DropsLast (old new : Tableau) : Type 0 where
   pub loads : new.loads ≡ old.loads
   pub added : new.added ≡ old.added
 
--- one number of another row's line after a pivot; the others are as they were
-pub record IsExchangedAt (scale : ℤ) (column : ℕ) (pivot old new : List ℤ) (place : ℕ) : Type 0 where
+-- one number of another row's line after a pivot, by the pivot's entry, the row's factor and the pivot row's number; the others are as they were
+pub record IsExchangedAt (scale entry factor other : ℤ) (old new : List ℤ) (place : ℕ) : Type 0 where
   pub len : length new ≡ length old
-  pub divided : number_at new place *ℤ scale
-      ≡ with_sign (number_at pivot column) (number_at pivot column *ℤ number_at old place -ℤ number_at old column *ℤ number_at pivot place)
-  pub others : (other : ℕ) → other ≢ place → number_at new other ≡ number_at old other
+  pub divided : number_at new place *ℤ scale ≡ entry *ℤ number_at old place -ℤ factor *ℤ other
+  pub others : (at : ℕ) → at ≢ place → number_at new at ≡ number_at old at
 
 -- pivots change scale, variables and lines only
 abbrev pub IsPivotedAny : Tableau → Tableau → Type 0

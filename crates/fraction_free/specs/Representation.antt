@@ -75,7 +75,7 @@ pub record IsKept (columns : ℕ) (loaded : List LoadedRow) (scale : ℤ) (place
 
 -- what a pivot asks of the lines: sizes, and that each difference of products has an exact quotient
 pub record CanExchange (scale : ℤ) (at column : ℕ) (lines : List (List ℤ)) : Type 0 where
-  pub scale_nonzero : scale ≢ pos 0
+  pub positive : pos 1 ≤ℤ scale
   pub scale_size : unsigned_abs scale < 2 ^ 89
   pub len : (row : ℕ) → row < length lines → length (slice_index_or lines row []) ≡ length (slice_index_or lines at [])
   pub column_below : column < length (slice_index_or lines at [])

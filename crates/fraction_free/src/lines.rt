@@ -5,7 +5,7 @@ ghost use Rattle.fraction_free.specs.Changes.{number_at, with_sign, IsOtherLine,
 ghost use Rattle.fraction_free.specs.Representation.{CanExchange, AreExchanged};
 
 use std::marker::Model;
-use wide_step::step;
+use wide_step::Divisor;
 
 /// A list of at most 25 whole numbers: the entries of a row, and its constant.
 #[derive(Drop)]
@@ -46,6 +46,7 @@ impl Line {
         }
     }
 
+    /// How many numbers it has.
     pub fn len(&self) -> usize
         ensures value { result ≡ length self.now }
         ensures most { result ≤ 25 }
@@ -62,6 +63,7 @@ impl Line {
         cells[place]
     }
 
+    /// Writes the number at a place.
     pub fn set(&mut self, place: usize, value: i128)
         requires { place < length self.old }
         ensures { self.new ≡ slice_set self.old place value }
@@ -73,50 +75,44 @@ impl Line {
 
 impl Line {
     /// The line after a pivot on another row: each number is the exact quotient by the old scale.
-    pub fn exchange(&mut self, pivot: &Line, column: usize, scale: i128)
+    pub fn exchange(&mut self, pivot: &Line, column: usize, scale: &Divisor)
         requires len { length pivot.now ≡ length self.old }
         requires column { column < length self.old }
-        requires scale { scale ≢ pos 0 }
-        requires scale_size { unsigned_abs scale < 2 ^ 89 }
         requires sizes { (place : ℕ) → unsigned_abs (number_at self.old place) < 2 ^ 89 }
         requires pivot_sizes { (place : ℕ) → unsigned_abs (number_at pivot.now place) < 2 ^ 89 }
         requires exact { (place : ℕ) → place < length self.old → place ≢ column
-            → HasQuotient (number_at pivot.now column *ℤ number_at self.old place -ℤ number_at self.old column *ℤ number_at pivot.now place) scale }
-        ensures { IsOtherLine scale column pivot.now self.old self.new }
+            → HasQuotient (number_at pivot.now column *ℤ number_at self.old place -ℤ number_at self.old column *ℤ number_at pivot.now place) scale.now }
+        ensures { IsOtherLine scale.now column pivot.now self.old self.new }
     {
+        let sign = pivot.get(column);
+        let entry = with_sign(sign, sign);
+        let factor = with_sign(sign, self.get(column));
+        // the line stays: nothing is taken off, and the old scale is the new one
+        if factor == 0 && entry == scale.number() {
+            return;
+        }
         for place in 0..self.len() {
             if place != column {
-                self.exchange_at(place, pivot, column, scale);
+                self.exchange_at(place, entry, factor, pivot.get(place), scale);
             }
         }
-        let number = with_sign(pivot.get(column), self.get(column));
-        self.set(column, number);
+        self.set(column, factor);
     }
 
-    /// One number after a pivot on another row: the difference of products, divided exactly by the
-    /// old scale.
-    fn exchange_at(&mut self, place: usize, pivot: &Line, column: usize, scale: i128)
-        requires len { length pivot.now ≡ length self.old }
-        requires column { column < length self.old }
+    /// One number after a pivot on another row, by the pivot's entry, the row's factor and the other
+    /// row's number.
+    #[inline]
+    fn exchange_at(&mut self, place: usize, entry: i128, factor: i128, other: i128, scale: &Divisor)
         requires place { place < length self.old }
-        requires scale { scale ≢ pos 0 }
-        requires scale_size { unsigned_abs scale < 2 ^ 89 }
-        requires entry_size { unsigned_abs (number_at pivot.now column) < 2 ^ 89 }
+        requires entry_size { unsigned_abs entry < 2 ^ 89 }
         requires number_size { unsigned_abs (number_at self.old place) < 2 ^ 89 }
-        requires factor_size { unsigned_abs (number_at self.old column) < 2 ^ 89 }
-        requires other_size { unsigned_abs (number_at pivot.now place) < 2 ^ 89 }
-        requires exact { HasQuotient (number_at pivot.now column *ℤ number_at self.old place -ℤ number_at self.old column *ℤ number_at pivot.now place) scale }
-        ensures { IsExchangedAt scale column pivot.now self.old self.new place }
+        requires factor_size { unsigned_abs factor < 2 ^ 89 }
+        requires other_size { unsigned_abs other < 2 ^ 89 }
+        requires exact { HasQuotient (entry *ℤ number_at self.old place -ℤ factor *ℤ other) scale.now }
+        ensures { IsExchangedAt scale.now entry factor other self.old self.new place }
     {
-        let entry = pivot.get(column);
-        let quotient = step(
-            entry,
-            self.get(place),
-            self.get(column),
-            pivot.get(place),
-            scale,
-        );
-        self.set(place, with_sign(entry, quotient));
+        let quotient = scale.step(entry, self.get(place), factor, other);
+        self.set(place, quotient);
     }
 
     /// The line of the variable that was nonbasic, after a pivot on this row.
@@ -191,12 +187,13 @@ fn exchange_lines(lines: &mut [Line], at: usize, pivot: &Line, column: usize, sc
     requires exact { CanExchange scale at column lines.old }
     ensures { AreExchanged scale at column lines.old lines.new }
 {
+    let divisor = Divisor::of(scale);
     for row in 0..lines.len() {
         let line = &mut lines[row];
         if row == at {
             line.leave(column, scale);
         } else {
-            line.exchange(pivot, column, scale);
+            line.exchange(pivot, column, &divisor);
         }
     }
 }

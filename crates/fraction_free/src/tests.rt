@@ -13,14 +13,6 @@ struct ExpectedRow {
     constant: i128,
 }
 
-fn row(basic: u32, entries: [i128; 3], constant: i128) -> ExpectedRow {
-    ExpectedRow {
-        basic,
-        entries,
-        constant,
-    }
-}
-
 /// That the dictionary holds these numbers.
 fn expect(
     rt: &impl Abort,
@@ -70,112 +62,189 @@ fn pivot(rt: &impl Abort, work: &mut Dictionary, row: u32, col: u8)
     work.pivot(row, col);
 }
 
-/// Three rows through pivots, with a row added and dropped in between: the lines that
-/// bench/pivots.py works out by exact fractions.
+// The rows after each step of the test, as bench/pivots.py works them out by exact fractions.
+
+const LOADED: [ExpectedRow; 3] = [
+    ExpectedRow {
+        basic: 4,
+        entries: [1, -1, 0],
+        constant: -1,
+    },
+    ExpectedRow {
+        basic: 5,
+        entries: [-1, 1, 1],
+        constant: 1,
+    },
+    ExpectedRow {
+        basic: 6,
+        entries: [1, 1, -1],
+        constant: 0,
+    },
+];
+
+const FIRST_PIVOT: [ExpectedRow; 3] = [
+    ExpectedRow {
+        basic: 2,
+        entries: [1, -1, 0],
+        constant: -1,
+    },
+    ExpectedRow {
+        basic: 5,
+        entries: [0, -1, 1],
+        constant: 0,
+    },
+    ExpectedRow {
+        basic: 6,
+        entries: [2, -1, -1],
+        constant: -1,
+    },
+];
+
+const SECOND_PIVOT: [ExpectedRow; 3] = [
+    ExpectedRow {
+        basic: 2,
+        entries: [1, -1, 1],
+        constant: -1,
+    },
+    ExpectedRow {
+        basic: 5,
+        entries: [0, -2, 2],
+        constant: 0,
+    },
+    ExpectedRow {
+        basic: 1,
+        entries: [1, 1, 1],
+        constant: 1,
+    },
+];
+
+const ROW_ADDED: [ExpectedRow; 4] = [
+    ExpectedRow {
+        basic: 2,
+        entries: [1, -1, 1],
+        constant: -1,
+    },
+    ExpectedRow {
+        basic: 5,
+        entries: [0, -2, 2],
+        constant: 0,
+    },
+    ExpectedRow {
+        basic: 1,
+        entries: [1, 1, 1],
+        constant: 1,
+    },
+    ExpectedRow {
+        basic: 7,
+        entries: [2, 0, 4],
+        constant: 4,
+    },
+];
+
+const THIRD_PIVOT: [ExpectedRow; 4] = [
+    ExpectedRow {
+        basic: 2,
+        entries: [1, -2, 1],
+        constant: -4,
+    },
+    ExpectedRow {
+        basic: 5,
+        entries: [-2, -4, 2],
+        constant: -4,
+    },
+    ExpectedRow {
+        basic: 1,
+        entries: [1, 2, 1],
+        constant: 0,
+    },
+    ExpectedRow {
+        basic: 3,
+        entries: [-2, 0, 2],
+        constant: -4,
+    },
+];
+
+const FOURTH_PIVOT: [ExpectedRow; 4] = [
+    ExpectedRow {
+        basic: 6,
+        entries: [4, 2, -1],
+        constant: 4,
+    },
+    ExpectedRow {
+        basic: 5,
+        entries: [-2, -2, 1],
+        constant: -3,
+    },
+    ExpectedRow {
+        basic: 1,
+        entries: [1, 1, 0],
+        constant: 1,
+    },
+    ExpectedRow {
+        basic: 3,
+        entries: [-2, -1, 1],
+        constant: -3,
+    },
+];
+
+const ROW_DROPPED: [ExpectedRow; 3] = [
+    ExpectedRow {
+        basic: 3,
+        entries: [2, 1, -1],
+        constant: 1,
+    },
+    ExpectedRow {
+        basic: 5,
+        entries: [2, 0, -1],
+        constant: 1,
+    },
+    ExpectedRow {
+        basic: 1,
+        entries: [1, 1, 0],
+        constant: 1,
+    },
+];
+
+const LAST_PIVOT: [ExpectedRow; 3] = [
+    ExpectedRow {
+        basic: 3,
+        entries: [2, 2, 0],
+        constant: 0,
+    },
+    ExpectedRow {
+        basic: 2,
+        entries: [1, 0, 1],
+        constant: -1,
+    },
+    ExpectedRow {
+        basic: 1,
+        entries: [1, 2, 1],
+        constant: 1,
+    },
+];
+
+/// Three rows through pivots, with a row added and dropped in between.
 #[test]
 fn pivots(rt: HostRuntime) -> Result<(), Fail> {
     let mut work = Dictionary::reserve(rt.alloc(), 3, 4)?;
     add(&rt, &mut work, &Row::of(&[1, -1, 0]), 1);
     add(&rt, &mut work, &Row::of(&[-1, 1, 1]), 0);
     add(&rt, &mut work, &Row::of(&[1, 1, -1]), 1);
-    expect(
-        &rt,
-        &work,
-        1,
-        [1, 2, 3],
-        &[
-            row(4, [1, -1, 0], -1),
-            row(5, [-1, 1, 1], 1),
-            row(6, [1, 1, -1], 0),
-        ],
-    );
+    expect(&rt, &work, 1, [1, 2, 3], &LOADED);
     pivot(&rt, &mut work, 1, 2);
-    expect(
-        &rt,
-        &work,
-        1,
-        [1, 4, 3],
-        &[
-            row(2, [1, -1, 0], -1),
-            row(5, [0, -1, 1], 0),
-            row(6, [2, -1, -1], -1),
-        ],
-    );
+    expect(&rt, &work, 1, [1, 4, 3], &FIRST_PIVOT);
     pivot(&rt, &mut work, 3, 1);
-    expect(
-        &rt,
-        &work,
-        2,
-        [6, 4, 3],
-        &[
-            row(2, [1, -1, 1], -1),
-            row(5, [0, -2, 2], 0),
-            row(1, [1, 1, 1], 1),
-        ],
-    );
+    expect(&rt, &work, 2, [6, 4, 3], &SECOND_PIVOT);
     add(&rt, &mut work, &Row::of(&[1, 1, 1]), 1);
-    expect(
-        &rt,
-        &work,
-        2,
-        [6, 4, 3],
-        &[
-            row(2, [1, -1, 1], -1),
-            row(5, [0, -2, 2], 0),
-            row(1, [1, 1, 1], 1),
-            row(7, [2, 0, 4], 4),
-        ],
-    );
+    expect(&rt, &work, 2, [6, 4, 3], &ROW_ADDED);
     pivot(&rt, &mut work, 4, 3);
-    expect(
-        &rt,
-        &work,
-        4,
-        [6, 4, 7],
-        &[
-            row(2, [1, -2, 1], -4),
-            row(5, [-2, -4, 2], -4),
-            row(1, [1, 2, 1], 0),
-            row(3, [-2, 0, 2], -4),
-        ],
-    );
+    expect(&rt, &work, 4, [6, 4, 7], &THIRD_PIVOT);
     pivot(&rt, &mut work, 1, 1);
-    expect(
-        &rt,
-        &work,
-        1,
-        [2, 4, 7],
-        &[
-            row(6, [4, 2, -1], 4),
-            row(5, [-2, -2, 1], -3),
-            row(1, [1, 1, 0], 1),
-            row(3, [-2, -1, 1], -3),
-        ],
-    );
+    expect(&rt, &work, 1, [2, 4, 7], &FOURTH_PIVOT);
     work.drop_last();
-    expect(
-        &rt,
-        &work,
-        1,
-        [2, 4, 6],
-        &[
-            row(3, [2, 1, -1], 1),
-            row(5, [2, 0, -1], 1),
-            row(1, [1, 1, 0], 1),
-        ],
-    );
+    expect(&rt, &work, 1, [2, 4, 6], &ROW_DROPPED);
     pivot(&rt, &mut work, 2, 1);
-    expect(
-        &rt,
-        &work,
-        2,
-        [5, 4, 6],
-        &[
-            row(3, [2, 2, 0], 0),
-            row(2, [1, 0, 1], -1),
-            row(1, [1, 2, 1], 1),
-        ],
-    );
+    expect(&rt, &work, 2, [5, 4, 6], &LAST_PIVOT);
     Ok(())
 }
 

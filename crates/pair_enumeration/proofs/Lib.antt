@@ -8,3 +8,4 @@ pub mod SearchLemmas
 pub mod PlaceLemmas
 pub mod ListLemmas
 pub mod PlaceLaws
+pub mod OneList

@@ -1,5 +1,5 @@
 -- What a command writes, and the status that it ends with.
-use Rattle.std.specs.Prelude.{◌≡◌, ◌⊎◌, ℕ, List, [], ◌∷◌, ◌++◌, map, codes, Option, String, IfSome}
+use Rattle.std.specs.Prelude.{◌≡◌, ◌⊎◌, ℕ, List, [], ◌∷◌, ◌++◌, map, codes, Option, Some, String, IfSome}
 use Rattle.std.specs.Fmt.{decimal}
 use Rattle.std.specs.String.{string_bytes}
 use Rattle.std.specs.declared.alloc.Global.{Global}
@@ -9,8 +9,9 @@ use Rattle.result_file.specs.declared.verdicts.Checked.{Checked}
 use Rattle.result_file.specs.declared.verdicts.Checked.TheVariants.{Valid, ValidComplete, Invalid, Unfinished, ReadFault, NoMemory}
 use Rattle.result_file.specs.Words.{part_text}
 use Rattle.result_file.specs.Verdicts.{CountsFault, EndsInput}
-use Rattle.result_file.specs.Places.{IsToldChecked}
-use Rattle.result_file.specs.Checked.{IsValid, EliminatedAreRanked, IsWorth}
+use Rattle.result_file.specs.Checked.{IsFileOf, IsToldChecked}
+use Rattle.result_file.specs.Contents.{Content}
+use Rattle.result_file.specs.Worth.{EliminatedAreRanked, SettlesAll, IsWorth}
 
 -- the words are the one word `check`
 abbrev pub IsCheck : List (String Global) → Type 0
@@ -73,6 +74,15 @@ pub record ChecksFile (source source_now : SourceState) (sink sink_now : SinkSta
 abbrev pub ShowsUsage : SinkState → SinkState → ℕ → Type 0
 ShowsUsage before now status = Writes usage_line 2 before now status ⊎ IsSilent 5 before now status
 
--- where it is told, the text is a valid file, and each pair that its lines eliminate is ranked so
+-- where it is told, the text is a valid file, and each pair that it eliminates is ranked so
 abbrev pub IsProved : Option (List ℕ) → Type 0
-IsProved told = IfSome told (λ text. (valid : IsValid text) × EliminatedAreRanked valid.criteria valid.claims)
+IsProved told = IfSome told (λ text. (content : Content) × IsFileOf content text × EliminatedAreRanked content)
+
+-- the sink tells that the line `valid complete` was written, and nothing else
+abbrev pub SaysComplete : SinkState → SinkState → Type 0
+SaysComplete before now =
+    (text : List ℕ) × (before.written ≡ Some text) × (now.written ≡ Some (text ++ verdict_line ValidComplete))
+
+-- where it is told, the text is the valid file of a survey that settles every pair
+abbrev pub IsSettled : Option (List ℕ) → Type 0
+IsSettled told = IfSome told (λ text. (content : Content) × IsFileOf content text × SettlesAll content)

@@ -1,6 +1,6 @@
 ghost use Rattle.std.specs.Prelude.{◌≡◌, ◌↔◌, ◌+◌, ◌≤◌, [], ◌++◌, length, codes, IsTrue};
 ghost use Rattle.std.specs.Fmt.{decimal};
-ghost use Rattle.paprika.specs.Command.{IsCheck, usage_line, verdict_line, Writes, Answers, ChecksFile, IsProved, ShowsUsage};
+ghost use Rattle.paprika.specs.Command.{IsCheck, usage_line, verdict_line, Writes, Answers, ChecksFile, IsProved, SaysComplete, IsSettled, ShowsUsage};
 
 use edges::{Sink, Source, Text};
 use itoa::Buffer;
@@ -39,8 +39,13 @@ pub fn plain_command<S: Source, K: Sink>(
         (record { written = K.written sink.old; faults = K.faults sink.old })
         (record { written = K.written sink.new; faults = K.faults sink.new }) result }
 
-    // Status 0 says that each value vector that meets the answers above an eliminated pair ranks it so.
+    // Status 0 says that each value vector that meets the answers standing at an eliminated pair's line ranks it so.
     ensures proved { IsCheck words.now → result ≡ 0 → IsProved (S.left source.old) }
+
+    // The line `valid complete` says that each vector that meets the answers ranks every pair that needs a question.
+    ensures complete { IsCheck words.now → SaysComplete
+        (record { written = K.written sink.old; faults = K.faults sink.old })
+        (record { written = K.written sink.new; faults = K.faults sink.new }) → IsSettled (S.left source.old) }
     ensures unread { (¬ IsCheck words.now) → source.new ≡ source.old }
     ensures usage { (¬ IsCheck words.now) → ShowsUsage
         (record { written = K.written sink.old; faults = K.faults sink.old })

@@ -1,3 +1,5 @@
+mod results;
+
 use crate::command::plain_command;
 use edges::{MemSink, MemSource, QuietSink, QuietSource};
 use std::alloc::Global;

@@ -5,8 +5,17 @@ use criteria_model::Row;
 use fraction_free::Dictionary;
 use wide_step::step;
 
-/// Adds so many rows of -1, 0 and 1.
-pub fn fill(work: &mut Dictionary, rows: u32)
+/// Which rows a dictionary is filled with.
+#[derive(Clone, Copy)]
+pub enum Rows {
+    /// -1, 0 and 1 in any order: entries stay short through a few pivots.
+    Mixed,
+    /// -1 and 1; the first 24 rows make a minor of 24^12, the largest of such a square (Paley 1933).
+    Largest,
+}
+
+/// Adds so many rows.
+pub fn fill(work: &mut Dictionary, rows: u32, kind: Rows)
     requires room { length work.old.loaded + rows ≤ work.old.room_rows }
     requires columns { work.old.columns ≡ 24 }
 {
@@ -15,18 +24,22 @@ pub fn fill(work: &mut Dictionary, rows: u32)
         seed = seed
             .wrapping_mul(6_364_136_223_846_793_005)
             .wrapping_add(1_442_695_040_888_963_407);
-        work.add_row(&row_of(seed ^ u64::from(row)), 1);
+        work.add_row(&row_of(seed ^ u64::from(row), row, kind), 1);
     }
 }
 
-/// A row by the digits of a number to base 3.
-fn row_of(seed: u64) -> Row
+/// The row at a place, counted from 0.
+fn row_of(seed: u64, row: u32, kind: Rows) -> Row
     ensures { length result ≡ 24 }
 {
     let mut cells = [0; 24];
     let mut rest = seed;
     for place in 0..24 {
-        cells[place] = digit(rest);
+        cells[place] = match kind {
+            Rows::Mixed => digit(rest),
+            Rows::Largest if row < 24 => residue(row, place as u32),
+            Rows::Largest => sign(rest % 3 == 0),
+        };
         rest /= 3;
     }
     Row::of(&cells)
@@ -42,40 +55,66 @@ fn digit(number: u64) -> i8
     }
 }
 
-/// Pivots where the entry is not 0, and the number of entries and constants that they wrote.
-pub fn pivots(work: &mut Dictionary, count: u32) -> u64 {
+/// A cell of Paley's square: whether row and column differ by a square modulo 23, within a border.
+fn residue(row: u32, column: u32) -> i8
+    requires row { row < 24 }
+    requires column { column < 24 }
+    ensures { unsigned_abs result ≤ 1 }
+{
+    let apart = (row + 23 - column) % 23;
+    sign(row == 0 || column > 0 && (0..12_u32).any(|root| root * root % 23 == apart))
+}
+
+fn sign(is_positive: bool) -> i8
+    ensures { unsigned_abs result ≤ 1 }
+{
+    if is_positive { 1 } else { -1 }
+}
+
+/// Pivots in each column, on as many rows from one on, where the entry is not 0; and the number of
+/// entries and constants that they wrote.
+pub fn pivots(work: &mut Dictionary, first: u32) -> u64 {
     let mut entries: u64 = 0;
-    for turn in 0..count {
-        if work.rows() > 0 {
-            let row = turn % work.rows() + 1;
-            let col = (turn % u32::from(work.cols())) as u8 + 1;
-            if work.entry(row, col) != 0 {
-                work.pivot(row, col);
-                entries = entries.wrapping_add(
-                    u64::from(work.rows()) * (u64::from(work.cols()) + 1),
-                );
-            }
+    for col in 1..=work.cols() {
+        let row = first.saturating_add(u32::from(col));
+        if row <= work.rows() && work.entry(row, col) != 0 {
+            work.pivot(row, col);
+            entries = entries.wrapping_add(u64::from(work.rows()) * (u64::from(work.cols()) + 1));
         }
     }
     entries
+}
+
+/// The most bits that an entry or constant has.
+pub fn most_bits(work: &Dictionary) -> u32 {
+    let mut size: u128 = 0;
+    for row in 1..=work.rows() {
+        size |= work.constant(row).unsigned_abs();
+        for col in 1..=work.cols() {
+            size |= work.entry(row, col).unsigned_abs();
+        }
+    }
+    u128::BITS - size.leading_zeros()
 }
 
 /// Exact steps whose products need about 200 bits, and their number.
 pub fn wide_steps(count: u32) -> u64 {
     let mut sum: u64 = 0;
     for turn in 0..count {
-        let factor = i128::from(turn) + (1 << 100);
-        if squares_apart(factor) == 0 {
+        let number = (1 << 100) + i128::from(turn);
+        let other = (1 << 99) - i128::from(turn);
+        if products_apart(number, other) == number - other {
             sum = sum.wrapping_add(1);
         }
     }
     sum
 }
 
-/// The difference of a number's square and itself, divided by the number.
-fn squares_apart(number: i128) -> i128
+/// The difference of a number's square and its product with another, divided by the number.
+fn products_apart(number: i128, other: i128) -> i128
     requires size { unsigned_abs number < 2 ^ 120 }
+    requires other_size { unsigned_abs other < 2 ^ 120 }
     requires divisor { 0 < unsigned_abs number }
 {
-    step(number, number, number, number, number)
+    step(number, number, other, number, number)
 }

@@ -23,11 +23,14 @@ use Rattle.result_file.specs.declared.verdicts.Part.{Part}
 use Rattle.result_file.specs.declared.verdicts.Part.TheVariants.{Form}
 use Rattle.result_file.specs.Claims.{Claim, answered, eliminated, answers_of, pair_of}
 use Rattle.result_file.specs.Parts.{part_of}
-use Rattle.result_file.specs.Texts.{claim_line, end_line}
+use Rattle.result_file.specs.Texts.{most_lines, claim_line, end_line}
 use Rattle.result_file.specs.Reading.{answer_at, elimination_at}
 use Rattle.result_file.specs.Eliminations.{Reads}
-use Rattle.result_file.specs.Checked.{most_claims, HasForm, HasPairForm, HasEliminationForm, FailsAs, Fails, begun}
-use Rattle.result_file.specs.Kept.{KeptClaims, Keeps, Adds, Accepts}
+use Rattle.result_file.specs.Checked.{Fails, begun}
+use Rattle.result_file.specs.Contents.{of_claims}
+use Rattle.result_file.specs.Forms.{HasPairForm, HasEliminationForm}
+use Rattle.result_file.specs.RightClaims.{HasForm, FailsAs}
+use Rattle.result_file.specs.Kept.{KeptClaims, KeepsClaims, AddsClaim, AcceptsClaim}
 use Rattle.result_file.specs.Stops.{StopsAt, Refuses}
 use Rattle.result_file.proofs.LineLaws.{IsPair, answer_takes, answer_again}
 use Rattle.result_file.proofs.EliminationLaws.{IsReadElimination, elimination_takes, elimination_again}
@@ -41,13 +44,13 @@ few_criteria (n ∷ levels) h =
     let others = few_criteria levels (λ k d lt. h (suc k) d (omega arith)) in
     omega (arith, sum_by-cons (λ (m : ℕ). m - 1) n levels)
 
-record IsSmall (criteria : Criteria) : Type 0 where
-  some : 1 ≤ length criteria.levels
-  most : length criteria.levels ≤ 24
-  some_increments : 1 ≤ increments criteria.levels
-  most_increments : increments criteria.levels ≤ 24
+pub record IsSmall (criteria : Criteria) : Type 0 where
+  pub some : 1 ≤ length criteria.levels
+  pub most : length criteria.levels ≤ 24
+  pub some_increments : 1 ≤ increments criteria.levels
+  pub most_increments : increments criteria.levels ≤ 24
 
-is_small : (criteria : Criteria) → IsModel criteria → IsSmall criteria
+pub is_small : (criteria : Criteria) → IsModel criteria → IsSmall criteria
 is_small criteria m =
     let few = few_criteria criteria.levels m.two_levels in
     record {
@@ -59,13 +62,13 @@ is_small criteria m =
 
 -- ---- forms, as they are read
 
-pair_form : (criteria : Criteria) (pair : Pair) → IsPair (length criteria.levels) pair → HasPairForm criteria pair
+pub pair_form : (criteria : Criteria) (pair : Pair) → IsPair (length criteria.levels) pair → HasPairForm criteria pair
 pair_form criteria pair h = record {
   left = record { len = h.left.len; each = h.left.each };
   right = record { len = h.right.len; each = h.right.each };
 }
 
-pair_read : (criteria : Criteria) (pair : Pair) → HasPairForm criteria pair → IsPair (length criteria.levels) pair
+pub pair_read : (criteria : Criteria) (pair : Pair) → HasPairForm criteria pair → IsPair (length criteria.levels) pair
 pair_read criteria pair h = record {
   left = record { len = h.left.len; each = h.left.each };
   right = record { len = h.right.len; each = h.right.each };
@@ -106,18 +109,18 @@ answer_line_takes criteria line answer m e =
     let t = answer_takes (length criteria.levels) line answer s.some s.most e in
     (t.0, pair_form criteria answer.pair t.1)
 
-answer_line_again : (criteria : Criteria) (answer : Answer) → IsModel criteria → HasForm criteria (answered answer) → answer_at (length criteria.levels) (claim_line (answered answer)) ≡ Some answer
+pub answer_line_again : (criteria : Criteria) (answer : Answer) → IsModel criteria → HasForm criteria (answered answer) → answer_at (length criteria.levels) (claim_line (answered answer)) ≡ Some answer
 answer_line_again criteria answer m h =
     let s = is_small criteria m in
     answer_again (length criteria.levels) answer s.some s.most (pair_read criteria answer.pair h)
 
-elimination_line_takes : (criteria : Criteria) (line : List ℕ) (e : Elimination) → IsModel criteria → elimination_at (length criteria.levels) (increments criteria.levels) line ≡ Some e → AreCites e.combination.answers → (line ≡ claim_line (eliminated e)) × HasForm criteria (eliminated e)
+pub elimination_line_takes : (criteria : Criteria) (line : List ℕ) (e : Elimination) → IsModel criteria → elimination_at (length criteria.levels) (increments criteria.levels) line ≡ Some e → AreCites e.combination.answers → (line ≡ claim_line (eliminated e)) × HasForm criteria (eliminated e)
 elimination_line_takes criteria line e m spelled cites =
     let s = is_small criteria m in
     let t = elimination_takes (length criteria.levels) (increments criteria.levels) line e s.some s.most s.some_increments s.most_increments spelled in
     (t.0, elimination_form criteria e t.1 cites)
 
-elimination_line_again : (criteria : Criteria) (e : Elimination) → IsModel criteria → HasForm criteria (eliminated e) → elimination_at (length criteria.levels) (increments criteria.levels) (claim_line (eliminated e)) ≡ Some e
+pub elimination_line_again : (criteria : Criteria) (e : Elimination) → IsModel criteria → HasForm criteria (eliminated e) → elimination_at (length criteria.levels) (increments criteria.levels) (claim_line (eliminated e)) ≡ Some e
 elimination_line_again criteria e m h =
     let s = is_small criteria m in
     elimination_again (length criteria.levels) (increments criteria.levels) e s.some s.most s.some_increments s.most_increments (elimination_read criteria e h)
@@ -134,7 +137,7 @@ scale_fits criteria line e m spelled =
 
 -- ---- one more line
 
-pub no_claim : (criteria : Criteria) (claims : List Claim) (line : List ℕ) → IsModel criteria → answer_at (length criteria.levels) line ≡ None → Reads None (elimination_at (length criteria.levels) (increments criteria.levels) line) → line ≢ end_line → StopsAt (begun criteria claims) line (stops.Wrong Form)
+pub no_claim : (criteria : Criteria) (claims : List Claim) (line : List ℕ) → IsModel criteria → answer_at (length criteria.levels) line ≡ None → Reads None (elimination_at (length criteria.levels) (increments criteria.levels) line) → line ≢ end_line → StopsAt (begun (of_claims criteria claims)) line (stops.Wrong Form)
 no_claim criteria claims line m no_answer no_elimination no_end = (no_end, none)
   where
     none : (claim : Claim) → HasForm criteria claim → line ≢ claim_line claim
@@ -144,15 +147,15 @@ no_claim criteria claims line m no_answer no_elimination no_end = (no_end, none)
     none (eliminated e) form spelled =
         no_elimination e (rw spelled (elimination_line_again criteria e m form)) form.combination.cites
 
-fails_claim : (part : Part) (criteria : Criteria) (claims : List Claim) (line : List ℕ) (claim : Claim) → HasForm criteria claim → line ≡ claim_line claim → FailsAs criteria claims claim part → Fails (begun criteria claims) line part
+fails_claim : (part : Part) (criteria : Criteria) (claims : List Claim) (line : List ℕ) (claim : Claim) → HasForm criteria claim → line ≡ claim_line claim → FailsAs criteria claims claim part → Fails (begun (of_claims criteria claims)) line part
 fails_claim Form criteria claims line claim form spelled h = absurd h
 fails_claim part criteria claims line claim form spelled h = (claim, form, spelled, h)
 
-stops_claim : (stop : Stop) (criteria : Criteria) (claims : List Claim) (line : List ℕ) (claim : Claim) → HasForm criteria claim → line ≡ claim_line claim → Refuses criteria claims claim stop → StopsAt (begun criteria claims) line stop
+stops_claim : (stop : Stop) (criteria : Criteria) (claims : List Claim) (line : List ℕ) (claim : Claim) → HasForm criteria claim → line ≡ claim_line claim → Refuses criteria claims claim stop → StopsAt (begun (of_claims criteria claims)) line stop
 stops_claim (stops.Wrong part) criteria claims line claim form spelled h = fails_claim part criteria claims line claim form spelled h
 stops_claim stops.NoMemory criteria claims line claim form spelled h = tt
 
-adds_claim : (old new : KeptClaims) (criteria : Criteria) (claims : List Claim) (line : List ℕ) (claim : Claim) → HasForm criteria claim → line ≡ claim_line claim → Accepts old new criteria claims claim → Adds old new line criteria claims
+adds_claim : (old new : KeptClaims) (criteria : Criteria) (claims : List Claim) (line : List ℕ) (claim : Claim) → HasForm criteria claim → line ≡ claim_line claim → AcceptsClaim new criteria claims claim → AddsClaim new line criteria claims
 adds_claim old new criteria claims line claim form spelled h = record {
   claim = claim;
   spelled = spelled;
@@ -160,22 +163,22 @@ adds_claim old new criteria claims line claim form spelled h = record {
   kept = h.kept;
 }
 
-pub adds_answer : (old new : KeptClaims) (line : List ℕ) (answer : Answer) → IsModel old.model → answer_at (length old.model.levels) line ≡ Some answer → (criteria : Criteria) (claims : List Claim) → Keeps old criteria claims → Accepts old new criteria claims (answered answer) → Adds old new line criteria claims
+pub adds_answer : (old new : KeptClaims) (line : List ℕ) (answer : Answer) → IsModel old.model → answer_at (length old.model.levels) line ≡ Some answer → (criteria : Criteria) (claims : List Claim) → KeepsClaims old criteria claims → AcceptsClaim new criteria claims (answered answer) → AddsClaim new line criteria claims
 adds_answer old new line answer m e criteria claims keeps h =
     let t = answer_line_takes criteria line answer (rw keeps.model at m) (rw keeps.model at e) in
     adds_claim old new criteria claims line (answered answer) t.1 t.0 h
 
-pub stops_answer : (old : KeptClaims) (line : List ℕ) (answer : Answer) (stop : Stop) → IsModel old.model → answer_at (length old.model.levels) line ≡ Some answer → (criteria : Criteria) (claims : List Claim) → Keeps old criteria claims → Refuses criteria claims (answered answer) stop → StopsAt (begun criteria claims) line stop
+pub stops_answer : (old : KeptClaims) (line : List ℕ) (answer : Answer) (stop : Stop) → IsModel old.model → answer_at (length old.model.levels) line ≡ Some answer → (criteria : Criteria) (claims : List Claim) → KeepsClaims old criteria claims → Refuses criteria claims (answered answer) stop → StopsAt (begun (of_claims criteria claims)) line stop
 stops_answer old line answer stop m e criteria claims keeps h =
     let t = answer_line_takes criteria line answer (rw keeps.model at m) (rw keeps.model at e) in
     stops_claim stop criteria claims line (answered answer) t.1 t.0 h
 
-pub adds_elimination : (old new : KeptClaims) (line : List ℕ) (e : Elimination) → IsModel old.model → elimination_at (length old.model.levels) (increments old.model.levels) line ≡ Some e → AreCites e.combination.answers → (criteria : Criteria) (claims : List Claim) → Keeps old criteria claims → Accepts old new criteria claims (eliminated e) → Adds old new line criteria claims
+pub adds_elimination : (old new : KeptClaims) (line : List ℕ) (e : Elimination) → IsModel old.model → elimination_at (length old.model.levels) (increments old.model.levels) line ≡ Some e → AreCites e.combination.answers → (criteria : Criteria) (claims : List Claim) → KeepsClaims old criteria claims → AcceptsClaim new criteria claims (eliminated e) → AddsClaim new line criteria claims
 adds_elimination old new line e m spelled cites criteria claims keeps h =
     let t = elimination_line_takes criteria line e (rw keeps.model at m) (rw keeps.model at spelled) cites in
     adds_claim old new criteria claims line (eliminated e) t.1 t.0 h
 
-pub stops_elimination : (old : KeptClaims) (line : List ℕ) (e : Elimination) (stop : Stop) → IsModel old.model → elimination_at (length old.model.levels) (increments old.model.levels) line ≡ Some e → AreCites e.combination.answers → (criteria : Criteria) (claims : List Claim) → Keeps old criteria claims → Refuses criteria claims (eliminated e) stop → StopsAt (begun criteria claims) line stop
+pub stops_elimination : (old : KeptClaims) (line : List ℕ) (e : Elimination) (stop : Stop) → IsModel old.model → elimination_at (length old.model.levels) (increments old.model.levels) line ≡ Some e → AreCites e.combination.answers → (criteria : Criteria) (claims : List Claim) → KeepsClaims old criteria claims → Refuses criteria claims (eliminated e) stop → StopsAt (begun (of_claims criteria claims)) line stop
 stops_elimination old line e stop m spelled cites criteria claims keeps h =
     let t = elimination_line_takes criteria line e (rw keeps.model at m) (rw keeps.model at spelled) cites in
     stops_claim stop criteria claims line (eliminated e) t.1 t.0 h
@@ -188,14 +191,14 @@ answers_of-push [] (eliminated e) = refl
 answers_of-push (answered first ∷ claims) claim = ap (λ (xs : List Answer). first ∷ xs) (answers_of-push claims claim)
 answers_of-push (eliminated first ∷ claims) claim = answers_of-push claims claim
 
-pub keeps_answer : (old new : KeptClaims) (criteria : Criteria) (claims : List Claim) (answer : Answer) → new.model ≡ old.model → new.count ≡ old.count + 1 → new.answers ≡ old.answers ++ answer ∷ [] → Keeps old criteria claims → Keeps new criteria (claims ++ answered answer ∷ [])
+pub keeps_answer : (old new : KeptClaims) (criteria : Criteria) (claims : List Claim) (answer : Answer) → new.model ≡ old.model → new.count ≡ old.count + 1 → new.answers ≡ old.answers ++ answer ∷ [] → KeepsClaims old criteria claims → KeepsClaims new criteria (claims ++ answered answer ∷ [])
 keeps_answer old new criteria claims answer model count answers h = record {
   model = model ∙ h.model;
   count = omega (arith, count, h.count, length-append claims (answered answer ∷ []));
   answers = answers ∙ rw (h.answers, answers_of-push claims (answered answer)) refl;
 }
 
-pub keeps_elimination : (old new : KeptClaims) (criteria : Criteria) (claims : List Claim) (e : Elimination) → new.model ≡ old.model → new.count ≡ old.count + 1 → new.answers ≡ old.answers → Keeps old criteria claims → Keeps new criteria (claims ++ eliminated e ∷ [])
+pub keeps_elimination : (old new : KeptClaims) (criteria : Criteria) (claims : List Claim) (e : Elimination) → new.model ≡ old.model → new.count ≡ old.count + 1 → new.answers ≡ old.answers → KeepsClaims old criteria claims → KeepsClaims new criteria (claims ++ eliminated e ∷ [])
 keeps_elimination old new criteria claims e model count answers h = record {
   model = model ∙ h.model;
   count = omega (arith, count, h.count, length-append claims (eliminated e ∷ []));
@@ -204,10 +207,10 @@ keeps_elimination old new criteria claims e model count answers h = record {
 
 -- ---- judging
 
-pub refuses : (kept : KeptClaims) (claim : Claim) (part : Part) → ((claims : List Claim) (other : Claim) → kept.count ≡ length claims → pair_of other ≡ pair_of claim → FailsAs kept.model claims other part) → (criteria : Criteria) (claims : List Claim) → Keeps kept criteria claims → FailsAs criteria claims claim part
+pub refuses : (kept : KeptClaims) (claim : Claim) (part : Part) → ((claims : List Claim) (other : Claim) → kept.count ≡ length claims → pair_of other ≡ pair_of claim → FailsAs kept.model claims other part) → (criteria : Criteria) (claims : List Claim) → KeepsClaims kept criteria claims → FailsAs criteria claims claim part
 refuses kept claim part fails criteria claims h = rw h.model at (fails claims claim h.count refl)
 
-pub accepts_answer : (old new : KeptClaims) (answer : Answer) → old.count < most_claims → IsClass old.model answer.pair → new.model ≡ old.model → new.count ≡ old.count + 1 → new.answers ≡ old.answers ++ answer ∷ [] → (criteria : Criteria) (claims : List Claim) → Keeps old criteria claims → Accepts old new criteria claims (answered answer)
+pub accepts_answer : (old new : KeptClaims) (answer : Answer) → old.count < most_lines → IsClass old.model answer.pair → new.model ≡ old.model → new.count ≡ old.count + 1 → new.answers ≡ old.answers ++ answer ∷ [] → (criteria : Criteria) (claims : List Claim) → KeepsClaims old criteria claims → AcceptsClaim new criteria claims (answered answer)
 accepts_answer old new answer room class model count answers criteria claims h = record {
   room = omega (arith, room, h.count);
   class = rw h.model at class;
@@ -215,7 +218,7 @@ accepts_answer old new answer room class model count answers criteria claims h =
   kept = keeps_answer old new criteria claims answer model count answers h;
 }
 
-pub accepts_elimination : (old new : KeptClaims) (e : Elimination) → old.count < most_claims → IsClass old.model e.pair → Proves old.model.levels old.answers e.combination e.pair e.verdict → new.model ≡ old.model → new.count ≡ old.count + 1 → new.answers ≡ old.answers → (criteria : Criteria) (claims : List Claim) → Keeps old criteria claims → Accepts old new criteria claims (eliminated e)
+pub accepts_elimination : (old new : KeptClaims) (e : Elimination) → old.count < most_lines → IsClass old.model e.pair → Proves old.model.levels old.answers e.combination e.pair e.verdict → new.model ≡ old.model → new.count ≡ old.count + 1 → new.answers ≡ old.answers → (criteria : Criteria) (claims : List Claim) → KeepsClaims old criteria claims → AcceptsClaim new criteria claims (eliminated e)
 accepts_elimination old new e room class proof model count answers criteria claims h = record {
   room = omega (arith, room, h.count);
   class = rw h.model at class;
@@ -223,7 +226,7 @@ accepts_elimination old new e room class proof model count answers criteria clai
   kept = keeps_elimination old new criteria claims e model count answers h;
 }
 
-fails_by : (flaw : Flaw) (criteria : Criteria) (claims : List Claim) (e : Elimination) → length claims < most_claims → IsClass criteria e.pair → IsFirstFlaw criteria.levels (answers_of claims) e.combination e.pair e.verdict (Some flaw) → FailsAs criteria claims (eliminated e) (part_of flaw)
+fails_by : (flaw : Flaw) (criteria : Criteria) (claims : List Claim) (e : Elimination) → length claims < most_lines → IsClass criteria e.pair → IsFirstFlaw criteria.levels (answers_of claims) e.combination e.pair e.verdict (Some flaw) → FailsAs criteria claims (eliminated e) (part_of flaw)
 fails_by flaws.Scale criteria claims e room class h = (room, class, (flaws.Scale, refl, h))
 fails_by flaws.Increment criteria claims e room class h = (room, class, (flaws.Increment, refl, h))
 fails_by flaws.Cite criteria claims e room class h = (room, class, (flaws.Cite, refl, h))
@@ -231,7 +234,7 @@ fails_by flaws.Weight criteria claims e room class h = (room, class, (flaws.Weig
 fails_by flaws.Sum criteria claims e room class h = (room, class, (flaws.Sum, refl, h))
 fails_by flaws.Strict criteria claims e room class h = (room, class, (flaws.Strict, refl, h))
 
-pub flawed : (kept : KeptClaims) (e : Elimination) (flaw : Flaw) (part : Part) → kept.count < most_claims → IsClass kept.model e.pair → IsFirstFlaw kept.model.levels kept.answers e.combination e.pair e.verdict (Some flaw) → part ≡ part_of flaw → (criteria : Criteria) (claims : List Claim) → Keeps kept criteria claims → FailsAs criteria claims (eliminated e) part
+pub flawed : (kept : KeptClaims) (e : Elimination) (flaw : Flaw) (part : Part) → kept.count < most_lines → IsClass kept.model e.pair → IsFirstFlaw kept.model.levels kept.answers e.combination e.pair e.verdict (Some flaw) → part ≡ part_of flaw → (criteria : Criteria) (claims : List Claim) → KeepsClaims kept criteria claims → FailsAs criteria claims (eliminated e) part
 flawed kept e flaw part room class h is criteria claims keeps =
     let by_model : IsFirstFlaw criteria.levels kept.answers e.combination e.pair e.verdict (Some flaw) = subst (λ (m : Criteria). IsFirstFlaw m.levels kept.answers e.combination e.pair e.verdict (Some flaw)) keeps.model h in
     let by_answers : IsFirstFlaw criteria.levels (answers_of claims) e.combination e.pair e.verdict (Some flaw) = subst (λ (xs : List Answer). IsFirstFlaw criteria.levels xs e.combination e.pair e.verdict (Some flaw)) keeps.answers by_model in
@@ -247,6 +250,6 @@ pub if_err_weaker : {T E : Type 0} (r : Result T E) (P Q : E → Type 0) → ((e
 if_err_weaker (Ok x) P Q f h = tt
 if_err_weaker (Err e) P Q f h = f e h
 
-pub no_claim_kept : (kept : KeptClaims) (line : List ℕ) → IsModel kept.model → answer_at (length kept.model.levels) line ≡ None → Reads None (elimination_at (length kept.model.levels) (increments kept.model.levels) line) → (criteria : Criteria) (claims : List Claim) → line ≢ end_line → Keeps kept criteria claims → StopsAt (begun criteria claims) line (stops.Wrong Form)
+pub no_claim_kept : (kept : KeptClaims) (line : List ℕ) → IsModel kept.model → answer_at (length kept.model.levels) line ≡ None → Reads None (elimination_at (length kept.model.levels) (increments kept.model.levels) line) → (criteria : Criteria) (claims : List Claim) → line ≢ end_line → KeepsClaims kept criteria claims → StopsAt (begun (of_claims criteria claims)) line (stops.Wrong Form)
 no_claim_kept kept line m no_answer no_elimination criteria claims no_end keeps =
     no_claim criteria claims line (rw keeps.model at m) (rw keeps.model at no_answer) (rw keeps.model at no_elimination) no_end

@@ -114,7 +114,7 @@ pub record IsReadCombination (increments : ℕ) (combination : Combination) : Ty
   pub weights : IsExactly IsCertificate increments combination.increments
   pub cites : AreReadCites combination.answers
 
-weights_field : (increments : ℕ) → 1 ≤ increments → increments ≤ 24 → IsField (weights_at increments) (listed signed_decimal) (IsExactly IsCertificate increments) EndsSide
+pub weights_field : (increments : ℕ) → 1 ≤ increments → increments ≤ 24 → IsField (weights_at increments) (listed signed_decimal) (IsExactly IsCertificate increments) EndsSide
 unfolding weights_at
 weights_field increments low high = exactly_field certificate_at signed_decimal IsCertificate certificates_field increments low high
 

@@ -1,6 +1,17 @@
 pub mod LineLaws
 pub mod EliminationLaws
 pub mod ClaimLaws
+pub mod EntryLaws
+pub mod LineEndLaws
+pub mod EventLaws
+pub mod ContentLaws
 pub mod StageLaws
 pub mod VerdictLaws
 pub mod WorthLaws
+pub mod SplitLaws
+pub mod LengthLaws
+pub mod SpelledLaws
+pub mod EventOnce
+pub mod StepLaws
+pub mod FailLaws
+pub mod OneVerdict

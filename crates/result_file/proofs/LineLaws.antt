@@ -17,7 +17,7 @@ use Rattle.criteria_model.specs.declared.pairs.Answer.{Answer}
 use Rattle.criteria_model.specs.declared.pairs.Side.{Side}
 use Rattle.criteria_model.specs.declared.pairs.Side.TheVariants.{Left, Right, Equal}
 use Rattle.result_file.specs.Texts.{pair_text, side_text, ranking_text, answer_line, model_line}
-use Rattle.result_file.specs.Checked.{HasModelForm}
+use Rattle.result_file.specs.Forms.{HasModelForm}
 use Rattle.criteria_model.specs.Criteria.{Criteria}
 use Rattle.result_file.specs.Reading.{at_end, or_else, exactly, tuple_at, pair_at, side_behind, side_at, ranking_at, answer_at, model_at}
 
@@ -59,7 +59,7 @@ pub joined6 : {X : Type 0} (t a b c d e f t1 t2 t3 t4 t5 rest : List X) → t �
 joined6 {X} t a b c d e f t1 t2 t3 t4 t5 rest p q r s v w =
     joined5 t a b c d e t1 t2 t3 t4 t5 p q r s v ∙ ap (λ (u : List X). ((((a ++ b) ++ c) ++ d) ++ e) ++ u) w ∙ sym (append_assoc ((((a ++ b) ++ c) ++ d) ++ e) f rest)
 
-joined2 : {X : Type 0} (t a b t1 rest : List X) → t ≡ a ++ t1 → t1 ≡ b ++ rest → t ≡ (a ++ b) ++ rest
+pub joined2 : {X : Type 0} (t a b t1 rest : List X) → t ≡ a ++ t1 → t1 ≡ b ++ rest → t ≡ (a ++ b) ++ rest
 joined2 {X} t a b t1 rest p q = p ∙ ap (λ (u : List X). a ++ u) q ∙ sym (append_assoc a b rest)
 
 pub at_end_some : {X : Type 0} (x y : X) (text : List ℕ) → at_end x text ≡ Some y → (text ≡ []) × (x ≡ y)
@@ -107,7 +107,7 @@ pub record IsPair (criteria : ℕ) (pair : Pair) : Type 0 where
   pub left : IsExactly (λ n. n ≤ 25) criteria pair.left
   pub right : IsExactly (λ n. n ≤ 25) criteria pair.right
 
-pair_field : (criteria : ℕ) → 1 ≤ criteria → criteria ≤ 24 → IsField (pair_at criteria) pair_text (IsPair criteria) EndsSide
+pub pair_field : (criteria : ℕ) → 1 ≤ criteria → criteria ≤ 24 → IsField (pair_at criteria) pair_text (IsPair criteria) EndsSide
 unfolding pair_at
 pair_field criteria low high = record {
   takes = λ text pair rest e.
@@ -135,7 +135,7 @@ side_behind_takes side word text found e =
     let t = (word_field word).takes text b.0.0 b.0.1 b.1 in
     subst (λ (x : Side × List ℕ). (x.0 ≡ side) × (text ≡ word ++ x.1)) (some_is _ _ b.2) (refl, t.0)
 
-or_else_some : {X : Type 0} (a b : Option X) (x : X) → or_else a b ≡ Some x → (a ≡ Some x) ⊎ (b ≡ Some x)
+pub or_else_some : {X : Type 0} (a b : Option X) (x : X) → or_else a b ≡ Some x → (a ≡ Some x) ⊎ (b ≡ Some x)
 or_else_some None b x e = inr e
 or_else_some (Some y) b x e = inl e
 
@@ -148,7 +148,7 @@ side_is side text found e =
     let t = side_behind_takes side (side_text side) text found e in
     rw t.0 t.1
 
-side_field : IsField side_at side_text (λ _. Unit {0}) (λ _. Unit {0})
+pub side_field : IsField side_at side_text (λ _. Unit {0}) (λ _. Unit {0})
 unfolding side_at IsSideAt
 side_field = record {
   takes = λ text side rest e.

@@ -1,5 +1,5 @@
 -- What each line, and the end of the text, says of a text.
-use Rattle.std.proofs.Common.{◌≡◌, ℕ, ◌+◌, ◌<◌, ◌≤◌, List, [], ◌∷◌, ◌++◌, length, map, suc, take, drop, get_or, take-append-drop, drop-cons, length-take, refl, sym, ap, subst, ◌∙◌, arith, append-nil, length-append, inl, inr}
+use Rattle.std.proofs.Common.{◌≡◌, ℕ, ◌+◌, ◌<◌, ◌≤◌, List, [], ◌∷◌, ◌++◌, length, suc, take, drop, get_or, take-append-drop, drop-cons, length-take, refl, sym, ap, subst, ◌∙◌, arith, append-nil, length-append, inl, inr}
 use Rattle.std.specs.Prelude.{Option, Some, None, IfSome, All}
 use Rattle.std.specs.Io.KnownBytes.{prepend_known}
 use Rattle.std.proofs.lemmas.List.Elements.{All-nil, All-cons, All-append}
@@ -11,6 +11,7 @@ use Rattle.edges.proofs.LineLaws.{first_line-long, unlines-push}
 use Rattle.std.proofs.lemmas.Bool.{cases_lt}
 use Rattle.std.proofs.lemmas.List.{length-map}
 use Rattle.criteria_model.specs.Criteria.{Criteria}
+use Rattle.survey_core.proofs.ShortLemmas.{legal_is_short_lem}
 use Rattle.result_file.specs.Claims.{Claim}
 use Rattle.result_file.specs.declared.places.Place.{Place}
 use Rattle.result_file.specs.declared.places.Place.TheVariants as places
@@ -18,9 +19,13 @@ use Rattle.result_file.specs.declared.verdicts.Part.{Part}
 use Rattle.result_file.specs.declared.verdicts.Part.TheVariants.{Form}
 use Rattle.result_file.specs.declared.verdicts.Checked.{Checked}
 use Rattle.result_file.specs.declared.verdicts.Checked.TheVariants.{Valid, ValidComplete, Invalid, Unfinished, ReadFault, NoMemory}
-use Rattle.result_file.specs.Texts.{heading, end_line, model_line, claim_line}
-use Rattle.result_file.specs.Checked.{most_claims, Stage, blank, headed, begun, ended, AreClaims, Says, Fails, IsChecked, IsValid}
-use Rattle.result_file.specs.Places.{StandsFor, GoesOn, EndsAs, HasCome, IsToldChecked}
+use Rattle.result_file.specs.Bodies.{IsOfWhole}
+use Rattle.result_file.specs.Checked.{Stage, blank, headed, begun, ended, Says, Fails, IsFileOf, IsChecked, IsToldChecked}
+use Rattle.result_file.specs.Contents.{Content, of_claims, of_events, lines_of, body_of, IsRightContent}
+use Rattle.result_file.specs.Events.{event_line}
+use Rattle.result_file.specs.Places.{StandsFor, GoesOn, EndsWhole, EndsAs, HasCome}
+use Rattle.result_file.specs.RightClaims.{AreClaims}
+use Rattle.result_file.specs.Texts.{most_lines, end_line, claim_line}
 
 for_told : (text : Option (List ℕ)) (P : List ℕ → Type 0) → ((bytes : List ℕ) → text ≡ Some bytes → P bytes) → IfSome text P
 for_told None P f = tt
@@ -74,33 +79,29 @@ line_come text before now number place next new h g goes =
     }
 
 -- the last lines of a file, and a piece after them
-ends_valid : (bytes piece : List ℕ) (lines : List (List ℕ)) (stage : Stage) (number : ℕ) → bytes ≡ unlines lines ++ piece → Says lines stage → EndsAs stage piece number Valid → IsValid bytes
-ends_valid bytes piece lines blank number whole says h = elim h [ inl at ↦ absurd at.0 | inr at ↦ absurd at.0 ]
-ends_valid bytes piece lines headed number whole says h = elim h [ inl at ↦ absurd at.0 | inr at ↦ absurd at.0 ]
-ends_valid bytes piece lines (begun criteria claims) number whole says h =
-    elim h [
-      | inl at ↦ record {
-        criteria = criteria;
-        claims = claims;
-        right = says.0;
-        lines = inl (whole ∙ ap (λ (ls : List (List ℕ)). unlines ls ++ piece) says.1 ∙ ap (λ (p : List ℕ). unlines (heading ∷ model_line criteria ∷ map claim_line claims) ++ p) at.1);
-      }
-      | inr at ↦ absurd at.0
-    ]
-ends_valid bytes piece lines (ended criteria claims) number whole says h =
-    elim h [
-      | inl at ↦ absurd at.0
-      | inr at ↦ record {
-        criteria = criteria;
-        claims = claims;
-        right = says.0;
-        lines = inr (whole ∙ ap (λ (p : List ℕ). unlines lines ++ p) at.1 ∙ append-nil (unlines lines) ∙ ap unlines says.1);
-      }
-    ]
+ends_whole : (verdict : Checked) (bytes piece : List ℕ) (lines : List (List ℕ)) (stage : Stage) → bytes ≡ unlines lines ++ piece → Says lines stage → EndsWhole stage piece verdict → (content : Content) × IsFileOf content bytes × IsOfWhole content verdict
+ends_whole verdict bytes piece lines blank whole says h = absurd h
+ends_whole verdict bytes piece lines (headed kind) whole says h = absurd h
+ends_whole verdict bytes piece lines (begun content) whole says h = (
+  content,
+  record {
+    right = says.0;
+    lines = inl (whole ∙ ap (λ (ls : List (List ℕ)). unlines ls ++ piece) says.1 ∙ ap (λ (p : List ℕ). unlines (lines_of content) ++ p) h.0);
+  },
+  h.1,
+)
+ends_whole verdict bytes piece lines (ended content) whole says h = (
+  content,
+  record {
+    right = says.0;
+    lines = inr (whole ∙ ap (λ (p : List ℕ). unlines lines ++ p) h.0 ∙ append-nil (unlines lines) ∙ ap unlines says.1);
+  },
+  h.1,
+)
 
 ends_checked : (verdict : Checked) (bytes piece : List ℕ) (lines : List (List ℕ)) (stage : Stage) (number : ℕ) → bytes ≡ unlines lines ++ piece → All HasNoLineEnd lines → HasNoLineEnd piece → length piece ≤ 4096 → Says lines stage → number ≡ length lines + 1 → EndsAs stage piece number verdict → IsChecked bytes verdict
-ends_checked Valid bytes piece lines stage number whole unbroken one short says count h = ends_valid bytes piece lines stage number whole says h
-ends_checked ValidComplete bytes piece lines stage number whole unbroken one short says count h = absurd h
+ends_checked Valid bytes piece lines stage number whole unbroken one short says count h = ends_whole Valid bytes piece lines stage whole says h
+ends_checked ValidComplete bytes piece lines stage number whole unbroken one short says count h = ends_whole ValidComplete bytes piece lines stage whole says h
 ends_checked (Invalid line part) bytes piece lines stage number whole unbroken one short says count h = record {
   lines = lines;
   rest = piece;
@@ -160,7 +161,7 @@ long_checked text before now left number place new h g ahead longest =
 -- ---- the loop over the lines
 
 -- each claim's number is below the most
-claim_number : (n : ℕ) (criteria : Criteria) (claims : List Claim) → AreClaims criteria claims → n < length claims → n < most_claims
+claim_number : (n : ℕ) (criteria : Criteria) (claims : List Claim) → AreClaims criteria claims → n < length claims → n < most_lines
 claim_number n criteria [] h lt = absurd (omega arith)
 claim_number n criteria (claim ∷ claims) h lt =
     let e : claim ∷ claims ≡ take n (claim ∷ claims) ++ get_or (claim ∷ claims) n claim ∷ drop (suc n) (claim ∷ claims) =
@@ -169,19 +170,22 @@ claim_number n criteria (claim ∷ claims) h lt =
     let len : length (take n (claim ∷ claims)) ≡ n = simp length-take (omega arith) in
     omega (arith, room, len)
 
-few_claims : (criteria : Criteria) (claims : List Claim) → AreClaims criteria claims → length claims ≤ most_claims
+few_claims : (criteria : Criteria) (claims : List Claim) → AreClaims criteria claims → length claims ≤ most_lines
 few_claims criteria claims h =
-    elim (cases_lt most_claims (length claims)) [
-      | inl lt ↦ let same = claim_number most_claims criteria claims h lt in absurd (omega arith)
+    elim (cases_lt most_lines (length claims)) [
+      | inl lt ↦ let same = claim_number most_lines criteria claims h lt in absurd (omega arith)
       | inr le ↦ le
     ]
 
+few_in_body : (content : Content) → IsRightContent content → length (body_of content) ≤ most_lines
+few_in_body (of_claims criteria claims) h = omega (arith, few_claims criteria claims h, length-map claims claim_line)
+few_in_body (of_events format survey) h = omega (arith, legal_is_short_lem survey.listed survey.history h.listed h.legal, length-map survey.history (event_line survey.listed.classes))
+
 few_lines : (lines : List (List ℕ)) (stage : Stage) → Says lines stage → length lines ≤ 131075
 few_lines lines blank h = rw h (omega arith)
-few_lines lines headed h = rw h (omega arith)
-few_lines lines (begun criteria claims) h = rw h.1 (omega (arith, few_claims criteria claims h.0, length-map claims claim_line))
-few_lines lines (ended criteria claims) h =
-    rw h.1 (omega (arith, few_claims criteria claims h.0, length-map claims claim_line, length-append (heading ∷ model_line criteria ∷ map claim_line claims) (end_line ∷ [])))
+few_lines lines (headed kind) h = rw h (omega arith)
+few_lines lines (begun content) h = rw h.1 (omega (arith, few_in_body content h.0))
+few_lines lines (ended content) h = rw h.1 (omega (arith, few_in_body content h.0, length-append (lines_of content) (end_line ∷ [])))
 
 pub few_come : (text now : Option (List ℕ)) (number : ℕ) (place : Place) → HasCome text now number place → number ≤ 131076
 few_come text now number place h = omega (arith, few_lines h.lines h.stage h.says, h.number)

@@ -1,120 +1,58 @@
--- Checked files: which bytes are valid, and what is wrong with the others. A file of claims has a heading, a
--- model, answers, and verdicts with combinations of the answers above them. It is told by what its lines are,
--- whatever reads them.
-use Rattle.std.specs.Prelude.{◌≡◌, ◌≢◌, ◌⊎◌, ℕ, ◌+◌, ◌<◌, ◌≤◌, List, [], ◌∷◌, ◌++◌, length, map, All, Some, None}
+-- Checked files: which bytes are valid, and what is wrong with the others. A file has a heading, a model, claims or
+-- events, and an end. It is told by what its lines are, whatever reads them.
+use Rattle.std.specs.Prelude.{◌≡◌, ◌≢◌, ◌⊎◌, ℕ, ◌+◌, ◌<◌, ◌≤◌, List, [], ◌∷◌, ◌++◌, length, All, None, Option, IfSome}
 use Rattle.edges.specs.Line.{HasNoLineEnd, first_line, unlines}
-use Rattle.criteria_model.specs.declared.pairs.Pair.{Pair}
-use Rattle.criteria_model.specs.Criteria.{Criteria, IsModel}
+use Rattle.criteria_model.specs.Criteria.{Criteria}
 use Rattle.criteria_model.specs.Faults.{model_fault}
-use Rattle.criteria_model.specs.Classes.{IsClass}
-use Rattle.criteria_model.specs.Answers.{IsRanked}
-use Rattle.criteria_model.specs.Worth.{increments}
-use Rattle.text_fields.specs.Spelling.{IsCertificate}
-use Rattle.farkas_check.specs.declared.combination.Combination.{Combination}
-use Rattle.farkas_check.specs.declared.flaws.Flaw.{Flaw}
-use Rattle.farkas_check.specs.Cited.{AreCites}
-use Rattle.farkas_check.specs.Flaws.{IsFirstFlaw}
-use Rattle.farkas_check.specs.Proof.{Proves}
-use Rattle.result_file.specs.declared.eliminations.Elimination.{Elimination}
+use Rattle.result_file.specs.declared.entries.Entry.{Entry}
+use Rattle.result_file.specs.declared.kinds.Kind.{Kind}
 use Rattle.result_file.specs.declared.verdicts.Part.{Part}
-use Rattle.result_file.specs.declared.verdicts.Part.TheVariants.{Form, Model, Limit, Class}
+use Rattle.result_file.specs.declared.verdicts.Part.TheVariants.{Form, Model}
 use Rattle.result_file.specs.declared.verdicts.Checked.{Checked}
 use Rattle.result_file.specs.declared.verdicts.Checked.TheVariants.{Valid, ValidComplete, Invalid, Unfinished, ReadFault, NoMemory}
-use Rattle.result_file.specs.Claims.{Claim, answered, eliminated, pair_of, answers_of}
-use Rattle.result_file.specs.Parts.{part_of}
-use Rattle.result_file.specs.Texts.{longest_line, heading, end_line, model_line, claim_line}
+use Rattle.result_file.specs.Claims.{Claim}
+use Rattle.result_file.specs.Contents.{Content, of_claims, of_events, lines_of, IsRightContent, IsCompleteContent}
+use Rattle.result_file.specs.Entries.{HasEntryForm}
+use Rattle.result_file.specs.Forms.{HasModelForm}
+use Rattle.result_file.specs.RightClaims.{HasForm, FailsAs}
+use Rattle.result_file.specs.RightEvents.{EntryFailsAs}
+use Rattle.result_file.specs.Texts.{longest_line, heading, end_line, model_line, claim_line, entry_line}
 
--- the most claims of a file
-abbrev pub most_claims : ℕ
-most_claims = 131072
-
--- numbers that a model line may have: at least one level count, and each number at most 999
-pub record HasModelForm (criteria : Criteria) : Type 0 where
-  pub some : 1 ≤ length criteria.levels
-  pub levels : All (λ n. n ≤ 999) criteria.levels
-  pub degree : criteria.degree ≤ 999
-
--- a list that a pair may have: one number up to 25 for each criterion
-pub record HasSideForm (criteria : Criteria) (levels : List ℕ) : Type 0 where
-  pub len : length levels ≡ length criteria.levels
-  pub each : All (λ n. n ≤ 25) levels
-
--- a pair of two such lists
-pub record HasPairForm (criteria : Criteria) (pair : Pair) : Type 0 where
-  pub left : HasSideForm criteria pair.left
-  pub right : HasSideForm criteria pair.right
-
--- a combination with a weight for each increment, and with cites in order
-pub record HasCombinationForm (criteria : Criteria) (combination : Combination) : Type 0 where
-  pub scale : IsCertificate combination.scale
-  pub len : length combination.increments ≡ increments criteria.levels
-  pub weights : All IsCertificate combination.increments
-  pub cites : AreCites combination.answers
-  pub numbers : All (λ cite. cite.answer ≤ 131072) combination.answers
-
--- an elimination by an eliminator up to 16, or by none
-pub record HasEliminationForm (criteria : Criteria) (elimination : Elimination) : Type 0 where
-  pub worker : elimination.worker ≤ 16
-  pub pair : HasPairForm criteria elimination.pair
-  pub combination : HasCombinationForm criteria elimination.combination
-
--- a claim that may stand in a file of this model
-abbrev pub HasForm : Criteria → Claim → Type 0
-HasForm criteria (answered answer) = HasPairForm criteria answer.pair
-HasForm criteria (eliminated elimination) = HasEliminationForm criteria elimination
-
--- the combination of an elimination proves its verdict from the answers above it
-abbrev pub Holds : Criteria → List Claim → Claim → Type 0
-Holds criteria before (answered answer) = Unit {0}
-Holds criteria before (eliminated e) = Proves criteria.levels (answers_of before) e.combination e.pair e.verdict
-
--- a claim that is right after the claims before it
-pub record IsRight (criteria : Criteria) (before : List Claim) (claim : Claim) : Type 0 where
-  pub form : HasForm criteria claim
-  pub room : length before < most_claims
-  pub class : IsClass criteria (pair_of claim)
-  pub proof : Holds criteria before claim
-
--- the first flaw of an elimination's combination is of this part
-abbrev pub HasFlaw : Criteria → List Claim → Claim → Part → Type 0
-HasFlaw criteria before (answered answer) part = ⊥
-HasFlaw criteria before (eliminated e) part =
-    (flaw : Flaw) × (part ≡ part_of flaw) × IsFirstFlaw criteria.levels (answers_of before) e.combination e.pair e.verdict (Some flaw)
-
--- the first part of a claim's line that is wrong after the claims before it, where its form is right
-abbrev pub FailsAs : Criteria → List Claim → Claim → Part → Type 0
-FailsAs criteria before claim Form = ⊥
-FailsAs criteria before claim Limit = most_claims ≤ length before
-FailsAs criteria before claim Class = (length before < most_claims) × (¬ IsClass criteria (pair_of claim))
-FailsAs criteria before claim part = (length before < most_claims) × IsClass criteria (pair_of claim) × HasFlaw criteria before claim part
-
--- a model and claims, each right after those before it
-pub record AreClaims (criteria : Criteria) (claims : List Claim) : Type 0 where
-  pub model : IsModel criteria
-  pub each : (before : List Claim) (claim : Claim) (after : List Claim) → claims ≡ before ++ claim ∷ after → IsRight criteria before claim
-
--- how far right lines have come: no line, the heading, a model and claims, or all of the file
+-- how far right lines have come: no line, the heading, a model and claims or events, or all of the file
 pub data Stage : Type 0 where
   blank : Stage
-  headed : Stage
-  begun : Criteria → List Claim → Stage
-  ended : Criteria → List Claim → Stage
+  headed : Kind → Stage
+  begun : Content → Stage
+  ended : Content → Stage
 
 -- the lines of a stage
 abbrev pub Says : List (List ℕ) → Stage → Type 0
 Says lines blank = lines ≡ []
-Says lines headed = lines ≡ heading ∷ []
-Says lines (begun criteria claims) = AreClaims criteria claims × (lines ≡ heading ∷ model_line criteria ∷ map claim_line claims)
-Says lines (ended criteria claims) = AreClaims criteria claims × (lines ≡ heading ∷ model_line criteria ∷ map claim_line claims ++ end_line ∷ [])
+Says lines (headed kind) = lines ≡ heading kind ∷ []
+Says lines (begun content) = IsRightContent content × (lines ≡ lines_of content)
+Says lines (ended content) = IsRightContent content × (lines ≡ lines_of content ++ end_line ∷ [])
+
+-- the line isn't of a form that may stand between the model and the end of a file such as this
+abbrev pub HasNoForm : Content → List ℕ → Type 0
+HasNoForm (of_claims criteria claims) line = (claim : Claim) → HasForm criteria claim → line ≢ claim_line claim
+HasNoForm (of_events format survey) line = (entry : Entry) → HasEntryForm format survey.listed.criteria entry → line ≢ entry_line entry
+
+-- the line is of such a form, and this is its first part that is wrong
+abbrev pub HasWrongPart : Content → List ℕ → Part → Type 0
+HasWrongPart (of_claims criteria claims) line part =
+    (claim : Claim) × HasForm criteria claim × (line ≡ claim_line claim) × FailsAs criteria claims claim part
+HasWrongPart (of_events format survey) line part =
+    (entry : Entry) × HasEntryForm format survey.listed.criteria entry × (line ≡ entry_line entry) × EntryFailsAs survey entry part
 
 -- the first part that is wrong of a line after a stage
 abbrev pub Fails : Stage → List ℕ → Part → Type 0
-Fails blank line Form = line ≢ heading
-Fails headed line Form = (criteria : Criteria) → HasModelForm criteria → line ≢ model_line criteria
-Fails headed line Model = (criteria : Criteria) × HasModelForm criteria × (line ≡ model_line criteria) × (model_fault criteria.levels criteria.degree ≢ None)
-Fails (begun criteria claims) line Form = (line ≢ end_line) × ((claim : Claim) → HasForm criteria claim → line ≢ claim_line claim)
-Fails (begun criteria claims) line part = (claim : Claim) × HasForm criteria claim × (line ≡ claim_line claim) × FailsAs criteria claims claim part
-Fails (ended criteria claims) line Form = Unit {0}
+Fails blank line Form = (kind : Kind) → line ≢ heading kind
+Fails (headed kind) line Form = (criteria : Criteria) → HasModelForm criteria → line ≢ model_line criteria
+Fails (headed kind) line Model =
+    (criteria : Criteria) × HasModelForm criteria × (line ≡ model_line criteria) × (model_fault criteria.levels criteria.degree ≢ None)
+Fails (begun content) line Form = (line ≢ end_line) × HasNoForm content line
+Fails (begun content) line part = HasWrongPart content line part
+Fails (ended content) line Form = Unit {0}
 Fails _ line _ = ⊥
 
 -- a text is these lines, each with its line end, and then the rest
@@ -132,12 +70,12 @@ pub record NextLineFails (stage : Stage) (rest : List ℕ) (part : Part) : Type 
 
 -- a model has come, and not the end
 abbrev pub HasBegun : Stage → Type 0
-HasBegun (begun criteria claims) = Unit {0}
+HasBegun (begun content) = Unit {0}
 HasBegun _ = ⊥
 
 -- the file has ended
 abbrev pub HasEnded : Stage → Type 0
-HasEnded (ended criteria claims) = Unit {0}
+HasEnded (ended content) = Unit {0}
 HasEnded _ = ⊥
 
 -- what comes next fails: more bytes than the longest line's without a line end, any byte after the end, or a whole line
@@ -149,8 +87,8 @@ NextFails stage rest part =
 
 -- a last line without its line end leaves the file open, unless it is the end line in its place
 abbrev pub LeavesOpen : Stage → List ℕ → Type 0
-LeavesOpen (begun criteria claims) rest = rest ≢ end_line
-LeavesOpen (ended criteria claims) rest = ⊥
+LeavesOpen (begun content) rest = rest ≢ end_line
+LeavesOpen (ended content) rest = ⊥
 LeavesOpen _ rest = Unit {0}
 
 -- right lines, of which there are one fewer than the number `line`, and after them a text such as P says
@@ -167,30 +105,20 @@ pub record ComesTo (text : List ℕ) (line : ℕ) (P : Stage → List ℕ → Ty
 abbrev pub IsCut : Stage → List ℕ → Type 0
 IsCut stage rest = HasNoLineEnd rest × (length rest ≤ longest_line) × LeavesOpen stage rest
 
--- all lines of a file of claims, the last with its line end or without it
-pub record IsValid (text : List ℕ) : Type 0 where
-  pub criteria : Criteria
-  pub claims : List Claim
-  pub right : AreClaims criteria claims
-  pub lines : (text ≡ unlines (heading ∷ model_line criteria ∷ map claim_line claims) ++ end_line)
-      ⊎ (text ≡ unlines (heading ∷ model_line criteria ∷ map claim_line claims ++ end_line ∷ []))
+-- all lines of a file with this right content, the last with its line end or without it
+pub record IsFileOf (content : Content) (text : List ℕ) : Type 0 where
+  pub right : IsRightContent content
+  pub lines : (text ≡ unlines (lines_of content) ++ end_line) ⊎ (text ≡ unlines (lines_of content ++ end_line ∷ []))
 
 -- a verdict that the text deserves
 abbrev pub IsChecked : List ℕ → Checked → Type 0
-IsChecked text Valid = IsValid text
-IsChecked text ValidComplete = ⊥
+IsChecked text Valid = (content : Content) × IsFileOf content text × (¬ IsCompleteContent content)
+IsChecked text ValidComplete = (content : Content) × IsFileOf content text × IsCompleteContent content
 IsChecked text (Invalid line part) = ComesTo text line (λ stage rest. NextFails stage rest part)
 IsChecked text (Unfinished line) = ComesTo text line IsCut
 IsChecked text ReadFault = Unit {0}
 IsChecked text NoMemory = Unit {0}
 
--- each eliminated pair is ranked so by every value vector that meets the answers above its line
-abbrev pub EliminatedAreRanked : Criteria → List Claim → Type 0
-EliminatedAreRanked criteria claims =
-    (before : List Claim) (e : Elimination) (after : List Claim) → claims ≡ before ++ eliminated e ∷ after
-    → IsRanked criteria.levels (answers_of before) e.pair e.verdict
-
--- what a valid text is worth: each pair that its lines eliminate is ranked so
-abbrev pub IsWorth : List ℕ → Checked → Type 0
-IsWorth text Valid = (valid : IsValid text) → EliminatedAreRanked valid.criteria valid.claims
-IsWorth text _ = Unit {0}
+-- the same of a text, where it is told
+abbrev pub IsToldChecked : Option (List ℕ) → Checked → Type 0
+IsToldChecked told verdict = IfSome told (λ text. IsChecked text verdict)

@@ -1,5 +1,6 @@
--- What a line reads as: the numbers or the claim that it spells, or none.
-use Rattle.std.specs.Prelude.{ℕ, ◌==◌, List, [], ◌∷◌, length, drop, codes, Option, Some, None, if◌then◌else◌, ℤ}
+-- What a line reads as: the numbers, the claim or the entry that it spells, or none.
+use Rattle.std.specs.Prelude.{ℕ, ◌==◌, nat_le, int_le, Bool, List, [], ◌∷◌, length, drop, codes, Option, Some, None, if◌then◌else◌, ℤ, pos}
+use Rattle.std.specs.List.{list_all}
 use Rattle.text_fields.specs.Spelling.{is_next}
 use Rattle.text_fields.specs.Reading.{◌>>=◌, word_at, number_at, certificate_at, list_at}
 use Rattle.criteria_model.specs.declared.pairs.Pair.{Pair}
@@ -9,6 +10,10 @@ use Rattle.criteria_model.specs.declared.pairs.Side.TheVariants.{Left, Right, Eq
 use Rattle.farkas_check.specs.declared.cites.Cite.{Cite}
 use Rattle.farkas_check.specs.declared.combination.Combination.{Combination}
 use Rattle.result_file.specs.declared.eliminations.Elimination.{Elimination}
+use Rattle.result_file.specs.declared.entries.Entry.{Entry}
+use Rattle.result_file.specs.declared.entries.Entry.TheVariants.{Issue, Commit, Close, Withdraw}
+use Rattle.result_file.specs.declared.entries.Format.{Format}
+use Rattle.result_file.specs.declared.entries.Format.TheVariants.{One, Two}
 
 -- the value, where nothing is left
 abbrev pub at_end : {X : Type 0} → X → List ℕ → Option X
@@ -106,3 +111,85 @@ elimination_at criteria increments line =
     word_at (codes " ") ranking.1 >>= λ second.
     combination_at increments second.1 >>= λ combination.
     at_end (record { worker = worker.0; pair = ranking.0.pair; verdict = ranking.0.side; combination = combination.0 }) combination.1
+
+-- what was read, where it passes a test
+abbrev pub passing : {X : Type 0} → (X → Bool) → Option (X × List ℕ) → Option (X × List ℕ)
+passing test read = read >>= λ found. if test found.0 then Some found else None
+
+-- a number from 1 on
+abbrev pub counted_at : ℕ → List ℕ → Option (ℕ × List ℕ)
+counted_at most text = passing (nat_le 1) (number_at most text)
+
+-- a desk
+unfoldable pub desk_at : List ℕ → Option (ℕ × List ℕ)
+desk_at text = counted_at 4 text
+
+-- a desk, and the number of a question or of an answer
+unfoldable pub numbers_at : List ℕ → Option ((ℕ × ℕ) × List ℕ)
+numbers_at text =
+    desk_at text >>= λ desk.
+    word_at (codes " ") desk.1 >>= λ blank.
+    counted_at 131072 blank.1 >>= λ number.
+    Some ((desk.0, number.0), number.1)
+
+-- a vector with a positive number for each of so many increments
+unfoldable pub vector_at : ℕ → List ℕ → Option (List ℤ × List ℕ)
+vector_at increments text = passing (list_all (int_le (pos 1))) (weights_at increments text)
+
+-- the two vectors that open a pair
+unfoldable pub vectors_at : ℕ → List ℕ → Option ((List ℤ × List ℤ) × List ℕ)
+vectors_at increments text =
+    vector_at increments text >>= λ plus.
+    word_at (codes " ") plus.1 >>= λ blank.
+    vector_at increments blank.1 >>= λ minus.
+    Some ((plus.0, minus.0), minus.1)
+
+-- an issue line
+unfoldable pub issue_at : ℕ → ℕ → List ℕ → Option Entry
+issue_at criteria increments line =
+    word_at (codes "issue ") line >>= λ word.
+    desk_at word.1 >>= λ desk.
+    word_at (codes " ") desk.1 >>= λ blank.
+    pair_at criteria blank.1 >>= λ pair.
+    word_at (codes " ") pair.1 >>= λ second.
+    vectors_at increments second.1 >>= λ vectors.
+    at_end (Issue desk.0 pair.0 vectors.0.0 vectors.0.1) vectors.1
+
+-- a commit line
+unfoldable pub commit_at : ℕ → List ℕ → Option Entry
+commit_at increments line =
+    word_at (codes "commit ") line >>= λ word.
+    numbers_at word.1 >>= λ numbers.
+    word_at (codes " ") numbers.1 >>= λ blank.
+    side_at blank.1 >>= λ side.
+    word_at (codes " ") side.1 >>= λ second.
+    vectors_at increments second.1 >>= λ vectors.
+    word_at (codes " ") vectors.1 >>= λ third.
+    vector_at increments third.1 >>= λ point.
+    at_end (Commit numbers.0.0 numbers.0.1 side.0 vectors.0.0 vectors.0.1 point.0) point.1
+
+-- a close line
+unfoldable pub close_at : List ℕ → Option Entry
+close_at line =
+    word_at (codes "close ") line >>= λ word.
+    numbers_at word.1 >>= λ numbers.
+    at_end (Close numbers.0.0 numbers.0.1) numbers.1
+
+-- a withdraw line
+unfoldable pub withdraw_at : List ℕ → Option Entry
+withdraw_at line =
+    word_at (codes "withdraw ") line >>= λ word.
+    numbers_at word.1 >>= λ numbers.
+    at_end (Withdraw numbers.0.0 numbers.0.1) numbers.1
+
+-- a withdraw line, where the format has them
+abbrev pub withdrawal_in : Format → List ℕ → Option Entry
+withdrawal_in One line = None
+withdrawal_in Two line = withdraw_at line
+
+-- a line of a result that is no elimination
+unfoldable pub step_at : Format → ℕ → ℕ → List ℕ → Option Entry
+step_at format criteria increments line =
+    or_else (issue_at criteria increments line)
+    (or_else (commit_at increments line)
+    (or_else (close_at line) (withdrawal_in format line)))

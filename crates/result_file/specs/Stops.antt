@@ -4,7 +4,8 @@ use Rattle.result_file.specs.declared.stops.Stop.{Stop}
 use Rattle.result_file.specs.declared.stops.Stop.TheVariants.{Wrong, NoMemory}
 use Rattle.criteria_model.specs.Criteria.{Criteria}
 use Rattle.result_file.specs.Claims.{Claim}
-use Rattle.result_file.specs.Checked.{Stage, Fails, FailsAs}
+use Rattle.result_file.specs.Checked.{Stage, Fails}
+use Rattle.result_file.specs.RightClaims.{FailsAs}
 
 -- the part that is wrong is the first one; of memory nothing is said
 abbrev pub StopsAt : Stage → List ℕ → Stop → Type 0

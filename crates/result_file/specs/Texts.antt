@@ -1,5 +1,5 @@
 -- How the lines of a checked file are written, each without its line end.
-use Rattle.std.specs.Prelude.{ℕ, List, [], ◌∷◌, ◌++◌, codes}
+use Rattle.std.specs.Prelude.{ℕ, List, [], ◌∷◌, ◌++◌, codes, ℤ}
 use Rattle.std.specs.Fmt.{decimal, signed_decimal}
 use Rattle.text_fields.specs.Spelling.{listed}
 use Rattle.criteria_model.specs.declared.pairs.Pair.{Pair}
@@ -10,15 +10,26 @@ use Rattle.criteria_model.specs.Criteria.{Criteria}
 use Rattle.farkas_check.specs.declared.cites.Cite.{Cite}
 use Rattle.farkas_check.specs.declared.combination.Combination.{Combination}
 use Rattle.result_file.specs.declared.eliminations.Elimination.{Elimination}
+use Rattle.result_file.specs.declared.entries.Entry.{Entry}
+use Rattle.result_file.specs.declared.entries.Entry.TheVariants.{Eliminate, Issue, Commit, Close, Withdraw}
+use Rattle.result_file.specs.declared.entries.Format.TheVariants.{One, Two}
+use Rattle.result_file.specs.declared.kinds.Kind.{Kind}
+use Rattle.result_file.specs.declared.kinds.Kind.TheVariants.{Claims, Result}
 use Rattle.result_file.specs.Claims.{Claim, answered, eliminated}
 
 -- the longest line
 abbrev pub longest_line : ℕ
 longest_line = 4096
 
--- the first line
-abbrev pub heading : List ℕ
-heading = codes "paprika claims 1"
+-- the most lines between the model line and the end
+abbrev pub most_lines : ℕ
+most_lines = 131072
+
+-- the first line of a file of this kind
+abbrev pub heading : Kind → List ℕ
+heading Claims = codes "paprika claims 1"
+heading (Result One) = codes "paprika result 1"
+heading (Result Two) = codes "paprika result 2"
 
 -- the last line
 abbrev pub end_line : List ℕ
@@ -72,3 +83,42 @@ elimination_line elimination =
 abbrev pub claim_line : Claim → List ℕ
 claim_line (answered answer) = answer_line answer
 claim_line (eliminated elimination) = elimination_line elimination
+
+-- a vector
+abbrev pub vector_text : List ℤ → List ℕ
+vector_text vector = listed signed_decimal vector
+
+-- the two vectors that open a pair
+abbrev pub vectors_text : List ℤ → List ℤ → List ℕ
+vectors_text plus minus = vector_text plus ++ codes " " ++ vector_text minus
+
+-- a desk, and the number of a question or of an answer
+abbrev pub numbers_text : ℕ → ℕ → List ℕ
+numbers_text desk number = decimal desk ++ codes " " ++ decimal number
+
+-- an issue line
+abbrev pub issue_line : ℕ → Pair → List ℤ → List ℤ → List ℕ
+issue_line desk pair plus minus =
+    codes "issue " ++ decimal desk ++ codes " " ++ pair_text pair ++ codes " " ++ vectors_text plus minus
+
+-- a commit line
+abbrev pub commit_line : ℕ → ℕ → Side → List ℤ → List ℤ → List ℤ → List ℕ
+commit_line desk question side plus minus point =
+    codes "commit " ++ numbers_text desk question ++ codes " " ++ side_text side
+    ++ codes " " ++ vectors_text plus minus ++ codes " " ++ vector_text point
+
+-- a close line
+abbrev pub close_line : ℕ → ℕ → List ℕ
+close_line desk question = codes "close " ++ numbers_text desk question
+
+-- a withdraw line
+abbrev pub withdraw_line : ℕ → ℕ → List ℕ
+withdraw_line desk answer = codes "withdraw " ++ numbers_text desk answer
+
+-- the line of an entry
+abbrev pub entry_line : Entry → List ℕ
+entry_line (Eliminate elimination) = elimination_line elimination
+entry_line (Issue desk pair plus minus) = issue_line desk pair plus minus
+entry_line (Commit desk question side plus minus point) = commit_line desk question side plus minus point
+entry_line (Close desk question) = close_line desk question
+entry_line (Withdraw desk answer) = withdraw_line desk answer

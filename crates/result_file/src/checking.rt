@@ -3,9 +3,10 @@ ghost use Rattle.edges.specs.Faults.{HasRisen};
 ghost use Rattle.edges.specs.Lines.{ahead};
 ghost use Rattle.edges.specs.Told.{IsAtEnd};
 ghost use Rattle.result_file.specs.Texts.{longest_line};
-ghost use Rattle.result_file.specs.Checked.{IsWorth};
-ghost use Rattle.result_file.specs.Places.{HasCome, IsToldChecked};
+ghost use Rattle.result_file.specs.Checked.{IsToldChecked};
+ghost use Rattle.result_file.specs.Places.{HasCome};
 ghost use Rattle.result_file.specs.Verdicts.{CountsFault, EndsInput};
+ghost use Rattle.result_file.specs.Worth.{IsWorth};
 
 use crate::places::Place;
 use crate::stops::Stop;

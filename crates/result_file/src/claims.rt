@@ -3,10 +3,12 @@ ghost use Rattle.std.specs.Prelude.{◌≡◌, ◌≢◌, ℕ, ◌+◌, ◌<◌,
 ghost use Rattle.criteria_model.specs.Criteria.{Criteria, IsModel};
 ghost use Rattle.criteria_model.specs.Classes.{IsClass};
 ghost use Rattle.criteria_model.specs.Worth.{increments as increments_of};
-ghost use Rattle.result_file.specs.Texts.{end_line};
+ghost use Rattle.result_file.specs.Texts.{most_lines, end_line};
 ghost use Rattle.result_file.specs.Claims.{Claim, answered, eliminated, pair_of};
-ghost use Rattle.result_file.specs.Checked.{most_claims, begun, FailsAs};
-ghost use Rattle.result_file.specs.Kept.{Keeps, Adds, Accepts};
+ghost use Rattle.result_file.specs.Checked.{begun};
+ghost use Rattle.result_file.specs.Contents.{of_claims};
+ghost use Rattle.result_file.specs.RightClaims.{FailsAs};
+ghost use Rattle.result_file.specs.Kept.{KeepsClaims, AddsClaim, AcceptsClaim};
 ghost use Rattle.result_file.specs.Stops.{StopsAt, Refuses};
 
 use crate::eliminations::{Elimination, elimination_of};
@@ -48,7 +50,7 @@ impl std::marker::Model for Claims {
 impl Claims {
     /// No claim yet.
     pub(crate) fn of(alloc: Global, model: Model) -> Result<Claims, Stop>
-        ensures none { IfOk result (λ claims. Keeps claims model []) }
+        ensures none { IfOk result (λ claims. KeepsClaims claims model []) }
         ensures model { IsModel model }
         ensures failed { IfErr result (λ stop. stop ≡ Stop.NoMemory) }
     {
@@ -67,9 +69,9 @@ impl Claims {
     /// Adds the claim of a line, or says what stops the check there.
     pub(crate) fn add(&mut self, line: &[u8]) -> Result<(), Stop>
         ensures added { OnOk result ((criteria : Criteria) (claims : List Claim) →
-            Keeps self.old criteria claims → Adds self.old self.new line.now criteria claims) }
+            KeepsClaims self.old criteria claims → AddsClaim self.new line.now criteria claims) }
         ensures failed { IfErr result (λ stop. (criteria : Criteria) (claims : List Claim) →
-            line.now ≢ end_line → Keeps self.old criteria claims → StopsAt (begun criteria claims) line.now stop) }
+            line.now ≢ end_line → KeepsClaims self.old criteria claims → StopsAt (begun (of_claims criteria claims)) line.now stop) }
     {
         if let Some(answer) = answer_of(line, self.criteria) {
             return self.add_answer(answer);
@@ -83,9 +85,9 @@ impl Claims {
     /// Adds an answer, or says what stops the check at it.
     fn add_answer(&mut self, answer: Answer) -> Result<(), Stop>
         ensures added { OnOk result ((criteria : Criteria) (claims : List Claim) →
-            Keeps self.old criteria claims → Accepts self.old self.new criteria claims (answered answer)) }
+            KeepsClaims self.old criteria claims → AcceptsClaim self.new criteria claims (answered answer)) }
         ensures failed { IfErr result (λ stop. (criteria : Criteria) (claims : List Claim) →
-            Keeps self.old criteria claims → Refuses criteria claims (answered answer) stop) }
+            KeepsClaims self.old criteria claims → Refuses criteria claims (answered answer) stop) }
     {
         if let Err(part) = self.judge(&answer.pair) {
             return Err(Stop::Wrong(part));
@@ -101,9 +103,9 @@ impl Claims {
         requires len { length elimination.now.combination.increments ≡ increments_of self.old.model.levels }
         requires scale { unsigned_abs elimination.now.combination.scale < 2 ^ 96 }
         ensures added { OnOk result ((criteria : Criteria) (claims : List Claim) →
-            Keeps self.old criteria claims → Accepts self.old self.new criteria claims (eliminated elimination.now)) }
+            KeepsClaims self.old criteria claims → AcceptsClaim self.new criteria claims (eliminated elimination.now)) }
         ensures failed { IfErr result (λ stop. (criteria : Criteria) (claims : List Claim) →
-            Keeps self.old criteria claims → Refuses criteria claims (eliminated elimination.now) stop) }
+            KeepsClaims self.old criteria claims → Refuses criteria claims (eliminated elimination.now) stop) }
     {
         let Elimination {
             pair,
@@ -123,7 +125,7 @@ impl Claims {
 
     /// Whether there is room for a claim on the pair, and the pair is a class.
     fn judge(&self, pair: &Pair) -> Result<(), Part>
-        ensures room { OnOk result (self.now.count < most_claims) }
+        ensures room { OnOk result (self.now.count < most_lines) }
         ensures class { OnOk result (IsClass self.now.model pair.now) }
         ensures failed { IfErr result (λ part. (claims : List Claim) (claim : Claim) →
             self.now.count ≡ length claims → pair_of claim ≡ pair.now → FailsAs self.now.model claims claim part) }

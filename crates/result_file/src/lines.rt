@@ -50,7 +50,7 @@ fn tuple(fields: &mut Fields<'_>, criteria: usize) -> Option<Tuple>
 
 /// Reads a pair.
 #[tactic(auto, unfolding(crate::specs::Reading::pair_at))]
-fn pair(fields: &mut Fields<'_>, criteria: usize) -> Option<Pair>
+pub(crate) fn pair(fields: &mut Fields<'_>, criteria: usize) -> Option<Pair>
     ensures { Gives result fields.new (pair_at criteria fields.old) }
 {
     let left = tuple(fields, criteria)?;
@@ -61,7 +61,7 @@ fn pair(fields: &mut Fields<'_>, criteria: usize) -> Option<Pair>
 
 /// Reads a side.
 #[tactic(auto, unfolding(crate::specs::Reading::side_at))]
-fn side(fields: &mut Fields<'_>) -> Option<Side>
+pub(crate) fn side(fields: &mut Fields<'_>) -> Option<Side>
     ensures { Gives result fields.new (side_at fields.old) }
 {
     if fields.word(b"left").is_some() {
@@ -101,7 +101,7 @@ pub(crate) fn answer_of(line: &[u8], criteria: usize) -> Option<Answer>
 
 /// Reads the increments' weights.
 #[tactic(auto, unfolding(crate::specs::Reading::weights_at))]
-fn weights(fields: &mut Fields<'_>, increments: usize) -> Option<Vector>
+pub(crate) fn weights(fields: &mut Fields<'_>, increments: usize) -> Option<Vector>
     ensures { Gives result fields.new (weights_at increments fields.old) }
 {
     let mut cells = [0; 24];

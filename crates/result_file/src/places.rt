@@ -1,20 +1,19 @@
 // How far the lines of a file have come.
 ghost use Rattle.std.specs.Prelude.{◌≡◌, ◌≢◌, ◌↔◌, ℕ, ◌≤◌, List, length, IsTrue, IfOk, IfErr};
+ghost use Rattle.result_file.specs.declared.kinds.Kind.{Kind as FileKind};
 ghost use Rattle.result_file.specs.Texts.{longest_line, model_line, end_line};
 ghost use Rattle.result_file.specs.Checked.{Stage, headed, Says, Fails};
 ghost use Rattle.result_file.specs.Verdicts.{CountsFault};
 ghost use Rattle.result_file.specs.Places.{StandsFor, GoesOn, EndsAs};
 ghost use Rattle.result_file.specs.Stops.{StopsAt};
 
-use crate::claims::Claims;
+use crate::bodies::Body;
+use crate::kinds::{Kind, kind_of};
 use crate::lines::model_of;
 use crate::stops::Stop;
 use crate::verdicts::{Checked, Part};
 use criteria_model::Model;
 use std::alloc::Global;
-
-/// The first line.
-const HEADING: &[u8] = b"paprika claims 1";
 
 /// The last line.
 const END_LINE: &[u8] = b"end";
@@ -25,11 +24,11 @@ pub(crate) enum Place {
     /// No line yet.
     Blank,
     /// The heading.
-    Headed,
-    /// A model and claims.
-    Begun(Claims),
+    Headed(Kind),
+    /// A model, and claims or events.
+    Begun(Body),
     /// The whole file.
-    Ended,
+    Ended(Body),
 }
 
 impl Place {
@@ -41,19 +40,16 @@ impl Place {
         ensures failed { IfErr result (λ stop. (stage : Stage) → StandsFor self stage → StopsAt stage line.now stop) }
     {
         match self {
-            Place::Blank => {
-                if line == HEADING {
-                    Ok(Place::Headed)
-                } else {
-                    Err(Stop::Wrong(Part::Form))
-                }
-            }
-            Place::Headed => match begin(line) {
-                Ok(model) => Ok(Place::Begun(Claims::of(alloc, model)?)),
+            Place::Blank => match kind_of(line) {
+                Some(kind) => Ok(Place::Headed(kind)),
+                None => Err(Stop::Wrong(Part::Form)),
+            },
+            Place::Headed(kind) => match begin(line) {
+                Ok(model) => Ok(Place::Begun(Body::of(alloc, kind, model)?)),
                 Err(part) => Err(Stop::Wrong(part)),
             },
-            Place::Begun(claims) => next_claim(claims, line),
-            Place::Ended => Err(Stop::Wrong(Part::Form)),
+            Place::Begun(body) => next_in_body(body, line),
+            Place::Ended(_) => Err(Stop::Wrong(Part::Form)),
         }
     }
 
@@ -63,16 +59,16 @@ impl Place {
         ensures quiet { (faults : ℕ) → CountsFault result faults faults }
     {
         match self {
-            Place::Begun(_) => {
+            Place::Begun(body) => {
                 if is_end(piece) {
-                    Checked::Valid
+                    body.verdict()
                 } else {
                     Checked::Unfinished { line: number }
                 }
             }
-            Place::Ended => {
+            Place::Ended(body) => {
                 if piece.is_empty() {
-                    Checked::Valid
+                    body.verdict()
                 } else {
                     Checked::Invalid {
                         line: number,
@@ -80,23 +76,23 @@ impl Place {
                     }
                 }
             }
-            Place::Blank | Place::Headed => Checked::Unfinished { line: number },
+            Place::Blank | Place::Headed(_) => Checked::Unfinished { line: number },
         }
     }
 }
 
-/// The place after one more line behind claims.
-fn next_claim(claims: Claims, line: &[u8]) -> Result<Place, Stop>
+/// The place after one more line behind a model.
+fn next_in_body(body: Body, line: &[u8]) -> Result<Place, Stop>
     ensures next { IfOk result (λ place. (lines : List (List ℕ)) (stage : Stage) →
-        Says lines stage → StandsFor (Place.Begun claims) stage → GoesOn lines line.now place) }
-    ensures failed { IfErr result (λ stop. (stage : Stage) → StandsFor (Place.Begun claims) stage → StopsAt stage line.now stop) }
+        Says lines stage → StandsFor (Place.Begun body) stage → GoesOn lines line.now place) }
+    ensures failed { IfErr result (λ stop. (stage : Stage) → StandsFor (Place.Begun body) stage → StopsAt stage line.now stop) }
 {
     if is_end(line) {
-        return Ok(Place::Ended);
+        return Ok(Place::Ended(body));
     }
-    let mut claims = claims;
-    claims.add(line)?;
-    Ok(Place::Begun(claims))
+    let mut body = body;
+    body.add(line)?;
+    Ok(Place::Begun(body))
 }
 
 /// Whether the line is the last of a file.
@@ -110,7 +106,7 @@ fn is_end(line: &[u8]) -> bool
 fn begin(line: &[u8]) -> Result<Model, Part>
     requires { length line.now ≤ longest_line }
     ensures spelled { IfOk result (λ model. line.now ≡ model_line model) }
-    ensures failed { IfErr result (λ part. Fails headed line.now part) }
+    ensures failed { IfErr result (λ part. (kind : FileKind) → Fails (headed kind) line.now part) }
 {
     let mut cells = [0; 2048];
     let Some((count, degree)) = model_of(line, &mut cells) else {

@@ -1,11 +1,12 @@
 use farkas_check::Flaw;
+use survey_core::Broken;
 
 /// What the check of a file says of it.
 #[derive(Clone, Copy, PartialEq, Eq, Debug)]
 pub enum Checked {
     /// Every line is right, and the file is whole.
     Valid,
-    /// The same, and every class is ranked or answered.
+    /// The same of a survey, and an event that stands ranks each class.
     ValidComplete,
     /// The first line that is wrong, and its first wrong part.
     Invalid { line: u32, part: Part },
@@ -42,8 +43,12 @@ pub enum Part {
     Question,
     /// Its point doesn't meet the answers.
     Point,
-    /// The pair isn't ranked by an event.
+    /// The pair of its question isn't eliminated.
     Unranked,
+    /// Its answer isn't the last one.
+    Nothing,
+    /// So many answers were withdrawn that the survey may grow too long.
+    Spent,
     /// The scale of its combination is below 1.
     Scale,
     /// A weight on an increment is negative.
@@ -76,6 +81,30 @@ impl From<Flaw> for Part {
     }
 }
 
+impl From<Broken> for Part {
+    ghost use Rattle.std.specs.Prelude.{◌≡◌};
+    ghost use Rattle.result_file.specs.Parts.{part_of_broken};
+
+    ghost from_gives = { λ broken part. part ≡ part_of_broken broken };
+
+    fn from(broken: Broken) -> Part {
+        match broken {
+            Broken::Class => Part::Class,
+            Broken::Ranked => Part::Ranked,
+            Broken::Flaw(flaw) => Part::from(flaw),
+            Broken::Asked => Part::Asked,
+            Broken::Full => Part::Full,
+            Broken::Earlier => Part::Earlier,
+            Broken::Vectors => Part::Vectors,
+            Broken::Question => Part::Question,
+            Broken::Point => Part::Point,
+            Broken::Unranked => Part::Unranked,
+            Broken::Nothing => Part::Nothing,
+            Broken::Spent => Part::Spent,
+        }
+    }
+}
+
 impl Part {
     ghost use Rattle.std.specs.Prelude.{◌≡◌};
     ghost use Rattle.result_file.specs.Words.{part_text};
@@ -97,6 +126,8 @@ impl Part {
             Part::Question => b"question",
             Part::Point => b"point",
             Part::Unranked => b"unranked",
+            Part::Nothing => b"nothing",
+            Part::Spent => b"spent",
             Part::Scale => b"scale",
             Part::Increment => b"increment",
             Part::Cite => b"cite",

@@ -1,6 +1,8 @@
 -- A proof speaks of the answers that it cites alone.
-use Rattle.std.proofs.Common.{◌≡◌, ℕ, ◌-◌, ◌≤◌, List, [], ◌∷◌, take, get_or, All, Any, Option, slice_get, ℤ, refl, ap, sym, subst, ◌∙◌, inl, inr, arith, append-nil, length-take}
+use Rattle.std.proofs.Common.{◌≡◌, ℕ, suc, ◌+◌, ◌-◌, ◌<◌, ◌≤◌, List, [], ◌∷◌, length, map, take, get_or, slice_index, Some, All, Any, Option, slice_get, ℤ, refl, ap, sym, subst, ◌∙◌, inl, inr, arith, append-nil, length-take}
 use Rattle.std.specs.Option.{option_map_or}
+use Rattle.std.specs.List.Sorted.{IsStrictlyIncreasing}
+use Rattle.std.proofs.lemmas.Option.{none-some, same_Some}
 use Rattle.criteria_model.specs.declared.pairs.Pair.{Pair}
 use Rattle.criteria_model.specs.declared.pairs.Answer.{Answer}
 use Rattle.criteria_model.specs.declared.pairs.Side.{Side}
@@ -22,6 +24,27 @@ greatest_each (cite ∷ cites) most h = (omega arith, greatest_each cites most (
 pub greatest_within : (cites : List Cite) (most : ℕ) → Each (λ cite. cite.answer ≤ most) cites → greatest_cited cites ≤ most
 greatest_within [] most hs = omega arith
 greatest_within (cite ∷ cites) most hs = omega (arith, hs.0, greatest_within cites most hs.1)
+
+increasing_tail : (x : ℕ) (xs : List ℕ) → IsStrictlyIncreasing (x ∷ xs) → IsStrictlyIncreasing xs
+increasing_tail x xs rising k within =
+    let next : suc k + 1 ≡ suc (k + 1) = omega arith in
+    let here : slice_index (x ∷ xs) (suc k) < slice_index (x ∷ xs) (suc k + 1) = rising (suc k) (omega arith) in
+    subst (λ (n : ℕ). slice_index (x ∷ xs) (suc k) < slice_index (x ∷ xs) n) next here
+
+-- of ascending numbers the last is the greatest
+greatest_from : (first : Cite) (cites : List Cite) (last : Cite) → IsStrictlyIncreasing (map (λ cite. cite.answer) (first ∷ cites))
+    → slice_get (first ∷ cites) (length cites) ≡ Some last → last.answer ≡ greatest_cited (first ∷ cites)
+greatest_from first [] last rising at = omega (arith, ap (λ (c : Cite). c.answer) (same_Some first last at))
+greatest_from first (next ∷ others) last rising at =
+    let below : first.answer < next.answer = rising 0 (omega arith) in
+    omega (arith, below, greatest_from next others last (increasing_tail first.answer (map (λ c. c.answer) (next ∷ others)) rising) at)
+
+pub greatest_last : (cites : List Cite) (last : Cite) → IsStrictlyIncreasing (map (λ cite. cite.answer) cites)
+    → slice_get cites (length cites - 1) ≡ Some last → last.answer ≡ greatest_cited cites
+greatest_last [] last rising at = absurd (none-some last at)
+greatest_last (first ∷ cites) last rising at =
+    let end : length (first ∷ cites) - 1 ≡ length cites = omega arith in
+    greatest_from first cites last rising (subst (λ (k : ℕ). slice_get (first ∷ cites) k ≡ Some last) end at)
 
 -- two lists of answers have the same cited answer
 abbrev Same : List Answer → List Answer → Cite → Type 0

@@ -33,15 +33,15 @@ false_true h = cc
 next_less : (k : ℕ) → k ≡ k + 1 - 1
 next_less k = omega arith
 
-or_either : (a b : Bool) → (a || b) ≡ true → (a ≡ true) ⊎ (b ≡ true)
+pub or_either : (a b : Bool) → (a || b) ≡ true → (a ≡ true) ⊎ (b ≡ true)
 or_either true b h = inl refl
 or_either false b h = inr h
 
-or_left : (a b : Bool) → a ≡ true → (a || b) ≡ true
+pub or_left : (a b : Bool) → a ≡ true → (a || b) ≡ true
 or_left true b h = refl
 or_left false b h = absurd (false_true h)
 
-or_right : (a b : Bool) → b ≡ true → (a || b) ≡ true
+pub or_right : (a b : Bool) → b ≡ true → (a || b) ≡ true
 or_right true b h = refl
 or_right false b h = h
 
@@ -88,10 +88,10 @@ module _ (listed : Listed) (history : List Event) (answers : AnswersWithRoom) (t
       → is_eliminated history place ≡ is_elimination mark.ranking
   eliminated_at place mark low at = mark_eliminated history place mark (mark_at place mark low at)
 
-  abbrev Found : ℕ → Type 0
+  abbrev pub Found : ℕ → Type 0
   Found place = (mark : Mark) × (slice_get table.classes (place - 1) ≡ Some mark)
 
-  found_at : (place : ℕ) → IsPlace listed place → Found place
+  pub found_at : (place : ℕ) → IsPlace listed place → Found place
   found_at place is = slice_get_inside table.classes (place - 1) (omega (arith, kept.table_of.len, is.0, is.1))
 
   pub front_at : (place : ℕ) → IsPlace listed place → AreSettled table.classes (place - 1) ↔ AreEarlierAsked history place

@@ -7,3 +7,8 @@ pub mod TableLemmas
 pub mod ReadLemmas
 pub mod KeptLemmas
 pub mod NewLemmas
+pub mod RankingLemmas
+pub mod NextTables
+pub mod NextKept
+pub mod PartLemmas
+pub mod ShortLemmas

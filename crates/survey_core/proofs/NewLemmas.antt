@@ -25,6 +25,7 @@ first_table listed =
       each_class = λ k mark at. subst (λ (m : Mark). IsMark [] (k + 1) m) (replicate_at n unmarked k mark at) (first_mark (k + 1));
       places = refl;
       each_question = λ k question at. absurd (none-some question at);
+      asked_count = count_none (λ mark. mark.issued) n unmarked refl;
       answer_count = λ most. omega (arith, count_none (is_answer_up_to most) n unmarked refl);
     }
 
@@ -40,7 +41,6 @@ new_kept listed answers room model few empty spare fits =
       answered = empty;
       room_for_answers = omega arith;
       table_of = subst (λ (n : ℕ). IsTableOf listed [] n table) (sym none) (first_table listed);
-      few_questions = omega arith;
       withdrawals_made = refl;
       unspent = omega arith;
       short = omega arith;

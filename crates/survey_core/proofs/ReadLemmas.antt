@@ -178,7 +178,7 @@ contained xs k x at = (k, slice_get_within xs k x at, get_or_from_slice_get xs k
 pub class_fits : (listed : Listed) (k : ℕ) (pair : Pair) → IsListed listed → slice_get listed.classes k ≡ Some pair → IsFit listed.criteria.levels pair
 class_fits listed k pair model at = ((model.list.members pair).0 (contained listed.classes k pair at)).fits
 
-map_some : {X Y : Type 0} (f : X → Y) (o : Option X) (y : Y) → option_map f o ≡ Some y → (x : X) × (o ≡ Some x) × (f x ≡ y)
+pub map_some : {X Y : Type 0} (f : X → Y) (o : Option X) (y : Y) → option_map f o ≡ Some y → (x : X) × (o ≡ Some x) × (f x ≡ y)
 map_some f None y h = absurd (none-some y h)
 map_some f (Some x) y h = (x, refl, same_Some (f x) y h)
 

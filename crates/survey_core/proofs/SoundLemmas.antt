@@ -17,7 +17,7 @@ use Rattle.survey_core.specs.declared.events.Event.{Event}
 use Rattle.survey_core.specs.declared.events.Event.TheVariants.{Eliminate, Issue, Commit, Close, Withdraw}
 use Rattle.survey_core.specs.Kinds.{issued_place}
 use Rattle.survey_core.specs.Histories.{standing, issued, is_issued, is_unended, place_of, class_at, class_of, answer_of, committed}
-use Rattle.survey_core.specs.Legal.{IsPlace, MayEliminate, MayIssue, MayCommit, MayWithdraw, MayFollow, IsLegal}
+use Rattle.survey_core.specs.Legal.{IsPlace, MayEliminate, MayIssue, MayCommit, MayClose, MayWithdraw, MayFollow, IsLegal}
 use Rattle.survey_core.specs.Marked.{greatest_cited, rests_on, Resting, numbered, resting}
 use Rattle.survey_core.proofs.ListSteps.{Each, Each-append, Each-map, Each-filter, All-Each, slice_get-take, slice_get-append, slice_get-push, slice_get-last, take-take, filter_map-same, some_and, and_then_some, any_at, filtered_range, take_whole, slice_get_inside, take_next}
 use Rattle.survey_core.proofs.StandingLemmas.{standing-push, issued-push, commit_count, numbered-append, CitesUpTo, numbered-without, OfCommits, length-filter_map, filter_map-without, Each-events}
@@ -43,11 +43,15 @@ pub record SoundCommit (listed : Listed) (asked : List ℕ) (answers : List Answ
   pub answer : slice_get answers (level - 1) ≡ Some (record { pair = pair; side = side })
   pub met : MeetsAll listed.criteria.levels (take level answers) point
 
+-- the question was issued
+abbrev pub IsAsked : List ℕ → ℕ → Type 0
+IsAsked asked question = (1 ≤ question) × (question ≤ length asked)
+
 abbrev pub IsSoundAt : Listed → List ℕ → List Answer → ℕ → Event → Type 0
 IsSoundAt listed asked answers level (Eliminate worker place verdict combination) = SoundEliminate listed answers level place verdict combination
 IsSoundAt listed asked answers level (Issue desk place plus minus) = Unit {0}
 IsSoundAt listed asked answers level (Commit desk question side plus minus point) = SoundCommit listed asked answers level question side point
-IsSoundAt listed asked answers level (Close desk question) = Unit {0}
+IsSoundAt listed asked answers level (Close desk question) = IsAsked asked question
 IsSoundAt listed asked answers level (Withdraw desk answer) = Unit {0}
 
 -- places of classes, each once; and each standing event is sound
@@ -79,7 +83,7 @@ sound_longer listed asked more answers others level (Commit desk question side p
   answer = slice_get-append answers others (level - 1) (record { pair = s.pair; side = side }) s.answer;
   met = subst (λ (l : List Answer). MeetsAll listed.criteria.levels l point) (sym (take-append-le level answers others s.within)) s.met;
 }
-sound_longer listed asked more answers others level (Close desk question) s = tt
+sound_longer listed asked more answers others level (Close desk question) s = (s.0, omega (arith, s.1, length-append asked more))
 sound_longer listed asked more answers others level (Withdraw desk answer) s = tt
 
 sound_shorter : (listed : Listed) (asked : List ℕ) (answers : List Answer) (n level : ℕ) (event : Event) → level ≤ n → n ≤ length answers
@@ -103,7 +107,7 @@ sound_shorter listed asked answers n level (Commit desk question side plus minus
   answer = slice_get-take n answers (level - 1) (omega (arith, s.numbered_from_one)) ∙ s.answer;
   met = subst (λ (l : List Answer). MeetsAll listed.criteria.levels l point) (sym (take-take level n answers low)) s.met;
 }
-sound_shorter listed asked answers n level (Close desk question) low high s = tt
+sound_shorter listed asked answers n level (Close desk question) low high s = s
 sound_shorter listed asked answers n level (Withdraw desk answer) low high s = tt
 
 -- ---- the answers and the Commits
@@ -264,11 +268,15 @@ module _ (listed : Listed) (history : List Event) (sound : IsSound listed histor
       (committed-push event refl (standing-push history event)) (resting-push event (standing-push history event)) tt once_same
       (sound_longer listed (issued history) [] answers [] (greatest_cited combination.answers) event here)
 
-  pub sound_close : (desk question : ℕ) → IsSound listed (history ++ Close desk question ∷ [])
-  sound_close desk question =
+  pub sound_close : (desk question : ℕ) → MayClose history question → IsSound listed (history ++ Close desk question ∷ [])
+  sound_close desk question may =
       let event : Event = Close desk question in
+      let asked : List ℕ = issued history in
+      let found : (1 ≤ question) × (question < 1 + length asked) × (is_unended history question ≡ true) =
+      filtered_range (is_unended history) 1 (length asked) question may.open_question in
       sound_made (history ++ event ∷ []) [] [] (length answers) event (issued-push history event)
-      (committed-push event refl (standing-push history event)) (resting-push event (standing-push history event)) tt once_same tt
+      (committed-push event refl (standing-push history event)) (resting-push event (standing-push history event)) tt once_same
+      (found.0, omega (arith, found.1, length-append asked []))
 
   pub sound_issue : (desk place : ℕ) (plus minus : List ℤ) → MayIssue listed history place plus minus → IsSound listed (history ++ Issue desk place plus minus ∷ [])
   sound_issue desk place plus minus may =
@@ -340,7 +348,7 @@ module _ (listed : Listed) (history : List Event) (sound : IsSound listed histor
   sound_next (Eliminate worker place verdict combination) may = sound_eliminate worker place verdict combination may
   sound_next (Issue desk place plus minus) may = sound_issue desk place plus minus may
   sound_next (Commit desk question side plus minus point) may = sound_commit desk question side plus minus point may
-  sound_next (Close desk question) may = sound_close desk question
+  sound_next (Close desk question) may = sound_close desk question may
   sound_next (Withdraw desk answer) may = sound_withdraw desk answer may
 
 sound_first : (listed : Listed) (history : List Event) → IsLegal listed history → (k : ℕ) → k ≤ length history → IsSound listed (take k history)

@@ -57,7 +57,7 @@ count_set p xs i x y at =
     ap (λ z. count_by p (slice_set xs i y) + cond (p z) 1 0) (sym (get_or_from_slice_get xs i x x at))
     ∙ sum_by-set (λ z. cond (p z) 1 0) xs i y x (slice_get_within xs i x at)
 
-abbrev one_if : Bool → ℕ
+abbrev pub one_if : Bool → ℕ
 one_if b = cond b 1 0
 
 cond_le : (b : Bool) → cond b 1 0 ≤ 1

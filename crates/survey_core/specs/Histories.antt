@@ -10,7 +10,7 @@ use Rattle.survey_core.specs.declared.events.Event.TheVariants.{Eliminate, Commi
 use Rattle.survey_core.specs.Kinds.{eliminates, cites, issued_place, is_commit, commits, closes, is_withdraw}
 
 -- what a withdrawal of the answer takes out of the standing events, seen from what stands behind it: each Eliminate that
--- cites the answer, the last Commit, and each Close after that
+-- cites the answer, the last Commit, and each Close after that (a legal history has a Commit standing where a Withdraw comes)
 abbrev pub is_taken : ℕ → List Event → Event → Bool
 is_taken answer later (Eliminate worker place verdict combination) = cites answer (Eliminate worker place verdict combination)
 is_taken answer later (Commit desk question side plus minus point) = not (list_any is_commit later)

@@ -1,15 +1,23 @@
 -- What legal histories have in common.
-use Rattle.std.specs.Prelude.{◌≡◌, ℕ, ◌≤◌, IsTrue, List, length, replicate, fold, Some, Option, None, ℤ, pos}
+use Rattle.std.specs.Prelude.{◌≡◌, ◌↔◌, ℕ, ◌≤◌, IsTrue, List, ◌∷◌, ◌++◌, length, replicate, fold, Any, Some, Option, None, ℤ, pos}
 use Rattle.std.specs.List.{filter_map}
 use Rattle.criteria_model.specs.declared.pairs.Pair.{Pair}
+use Rattle.criteria_model.specs.declared.pairs.Answer.{Answer}
 use Rattle.criteria_model.specs.declared.pairs.Side.{Side}
 use Rattle.criteria_model.specs.Worth.{increments}
-use Rattle.criteria_model.specs.Answers.{MeetsAll, IsRanked}
+use Rattle.criteria_model.specs.Alternatives.{IsAlternative}
+use Rattle.criteria_model.specs.Answers.{MeetsAll, IsSatisfiable, IsRanked, turned_side}
+use Rattle.farkas_check.specs.declared.combination.Combination.{Combination}
+use Rattle.pair_enumeration.specs.declared.flips.Flip.{Flip}
+use Rattle.pair_enumeration.specs.declared.flips.Flip.TheVariants.{Kept, Turned}
 use Rattle.pair_enumeration.specs.Listed.{Listed, IsListed}
+use Rattle.pair_enumeration.specs.Places.{NeedsQuestion, IsPlaceOf}
+use Rattle.survey_core.specs.declared.broken.Broken.{Broken}
 use Rattle.survey_core.specs.declared.events.Event.{Event}
-use Rattle.survey_core.specs.declared.events.Event.TheVariants.{Commit}
-use Rattle.survey_core.specs.Histories.{standing, committed, class_at, is_ranked}
-use Rattle.survey_core.specs.Legal.{IsLegal}
+use Rattle.survey_core.specs.declared.events.Event.TheVariants.{Eliminate, Commit}
+use Rattle.survey_core.specs.Histories.{standing, issued, place_of, committed, class_at, is_ranked}
+use Rattle.survey_core.specs.Legal.{IsPlace, MayFollow, IsLegal}
+use Rattle.survey_core.specs.Verdicts.{FailsFirst}
 
 -- the point of a Commit
 abbrev pub point_of : Event → Option (List ℤ)
@@ -36,3 +44,92 @@ RankedByAnswers =
 -- a legal history is at most 131,072 events long
 abbrev pub IsShort : Type 0
 IsShort = (listed : Listed) (history : List Event) → IsListed listed → IsLegal listed history → length history ≤ 131072
+
+-- the answers of a legal history are satisfiable
+abbrev pub AnswersAreSatisfiable : Type 0
+AnswersAreSatisfiable =
+    (listed : Listed) (history : List Event) → IsListed listed → IsLegal listed history
+    → IsSatisfiable listed.criteria.levels (committed listed.classes history)
+
+-- a class that an event of a legal history eliminates is ranked so by the answers that stood before the event
+abbrev pub EliminatedAreRanked : Type 0
+EliminatedAreRanked =
+    (listed : Listed) (history before after : List Event) (worker place : ℕ) (verdict : Side) (combination : Combination) (pair : Pair)
+    → IsLegal listed history → history ≡ before ++ Eliminate worker place verdict combination ∷ after → class_at listed.classes place ≡ Some pair
+    → IsRanked listed.criteria.levels (committed listed.classes before) pair verdict
+
+-- the side that an event gives the class at a place: the verdict of its Eliminate, or the side of a Commit of a question that asks it
+abbrev pub Gives : List ℕ → ℕ → Event → Side → Type 0
+Gives asked place (Eliminate worker eliminated verdict combination) side = (eliminated ≡ place) × (verdict ≡ side)
+Gives asked place (Commit desk question chosen plus minus point) side = (place_of asked question ≡ Some place) × (chosen ≡ side)
+Gives asked place _ side = ⊥
+
+-- the ranking of the class at a place: the side that a standing Eliminate or Commit gives it
+abbrev pub HasRanking : List Event → ℕ → Side → Type 0
+HasRanking history place side = Any (λ event. Gives (issued history) place event side) (standing history)
+
+-- a class has such a ranking exactly where it is ranked by an event
+abbrev pub RankedHasRanking : Type 0
+RankedHasRanking = (history : List Event) (place : ℕ) → IsTrue (is_ranked history place) ↔ ((side : Side) × HasRanking history place side)
+
+-- in a legal history a class has one ranking at most
+abbrev pub EachHasOneRanking : Type 0
+EachHasOneRanking =
+    (listed : Listed) (history : List Event) (place : ℕ) (one other : Side) → IsListed listed → IsLegal listed history
+    → HasRanking history place one → HasRanking history place other → one ≡ other
+
+-- in a legal history the ranking of a class is the one by the answers
+abbrev pub RankingsAreByAnswers : Type 0
+RankingsAreByAnswers =
+    (listed : Listed) (history : List Event) (place : ℕ) (side : Side) (pair : Pair) → IsLegal listed history
+    → HasRanking history place side → class_at listed.classes place ≡ Some pair
+    → IsRanked listed.criteria.levels (committed listed.classes history) pair side
+
+-- a side of a class, seen from two alternatives that stand as the class does or the other way round
+abbrev pub flipped_side : Flip → Side → Side
+flipped_side Kept side = side
+flipped_side Turned side = turned_side side
+
+-- answers that rank a class rank every two alternatives whose class it is, its replicas too, either way round
+abbrev pub ClassRanksPairs : Type 0
+ClassRanksPairs =
+    (listed : Listed) (answers : List Answer) (place : ℕ) (side : Side) (pair : Pair) (a b : List ℕ) (flip : Flip)
+    → class_at listed.classes place ≡ Some pair → IsRanked listed.criteria.levels answers pair side → IsPlaceOf listed a b place flip
+    → IsRanked listed.criteria.levels answers (record { left = a; right = b }) (flipped_side flip side)
+
+-- two alternatives have the ranking of their class: a standing Eliminate or Commit gives their class a side, and the answers
+-- rank the two so, turned where they stand the other way round
+pub record HasClassRanking (listed : Listed) (history : List Event) (a b : List ℕ) : Type 0 where
+  pub place : ℕ
+  pub flip : Flip
+  pub side : Side
+  pub class : IsPlaceOf listed a b place flip
+  pub ranking : HasRanking history place side
+  pub ranked : IsRanked listed.criteria.levels (committed listed.classes history) (record { left = a; right = b }) (flipped_side flip side)
+
+-- complete: each class is ranked by an event
+abbrev pub IsComplete : Listed → List Event → Type 0
+IsComplete listed history = (place : ℕ) → IsPlace listed place → IsTrue (is_ranked history place)
+
+-- every two undominated alternatives of a degree within the limit have the ranking of their class
+abbrev pub RanksEveryPair : Listed → List Event → Type 0
+RanksEveryPair listed history =
+    (a b : List ℕ) → IsAlternative listed.criteria.levels a → IsAlternative listed.criteria.levels b → NeedsQuestion listed.criteria a b
+    → HasClassRanking listed history a b
+
+-- a legal history that is complete ranks every pair
+abbrev pub CompleteRanksEveryPair : Type 0
+CompleteRanksEveryPair =
+    (listed : Listed) (history : List Event) → IsListed listed → IsLegal listed history → IsComplete listed history → RanksEveryPair listed history
+
+-- an event lacks one first part at most
+abbrev pub OneFirstPart : Type 0
+OneFirstPart =
+    (listed : Listed) (history : List Event) (event : Event) (one other : Broken)
+    → FailsFirst listed history event one → FailsFirst listed history event other → one ≡ other
+
+-- an event that may follow lacks none
+abbrev pub AllowedLacksNone : Type 0
+AllowedLacksNone =
+    (listed : Listed) (history : List Event) (event : Event) (part : Broken)
+    → MayFollow listed history event → ¬ FailsFirst listed history event part

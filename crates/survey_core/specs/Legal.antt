@@ -1,4 +1,5 @@
--- Which events may follow a history. Answers, questions and ranked classes are those of the standing events.
+-- Which events may follow a history. Answers, ended questions and ranked classes are those of the standing events, issued
+-- questions those of the whole history.
 use Rattle.std.specs.Prelude.{◌≡◌, ◌⊎◌, ℕ, ◌+◌, ◌*◌, ◌^◌, ◌<◌, ◌≤◌, IsTrue, IsFalse, List, [], ◌∷◌, ◌++◌, length, take, slice_get, Some, IsSomeAnd, unsigned_abs, ℤ}
 use Rattle.criteria_model.specs.declared.pairs.Side.{Side}
 use Rattle.criteria_model.specs.Worth.{increments, IsValueVector}
@@ -97,8 +98,8 @@ pub record MayClose (history : List Event) (question : ℕ) : Type 0 where
 abbrev pub IsLastAnswer : Listed → List Event → ℕ → Type 0
 IsLastAnswer listed history answer = (1 ≤ answer) × (answer ≡ length (committed listed.classes history))
 
--- with c classes and w withdrawals made, one more could make a history longer than 131,072 events: 3 events a class before the
--- first withdrawal, and then 2 events a class and the Withdraw for each
+-- with c classes and w withdrawals made, the bound on a history's length with one more is above 131,072 events: 3 events a class
+-- before the first withdrawal, and then 2 events a class and the Withdraw for each
 abbrev pub IsSpent : ℕ → ℕ → Type 0
 IsSpent classes withdrawn = 131072 < 3 * classes + 2 * classes * (withdrawn + 1) + (withdrawn + 1)
 

@@ -190,6 +190,7 @@ pub record IsTableOf (listed : Listed) (history : List Event) (answers : ℕ) (t
   pub each_class : (k : ℕ) (mark : Mark) → slice_get table.classes k ≡ Some mark → IsMark history (k + 1) mark
   pub places : map (λ question. question.place) table.questions ≡ issued history
   pub each_question : (k : ℕ) (question : Question) → slice_get table.questions k ≡ Some question → IsQuestionMark history (k + 1) question
+  pub asked_count : count_by (λ mark. mark.issued) table.classes ≡ length table.questions
   pub answer_count : (most : ℕ) → count_by (is_answer_up_to most) table.classes ≡ min most answers
 
 -- what a `Core` keeps
@@ -199,7 +200,6 @@ pub record IsKept (listed : Listed) (history : List Event) (answers : AnswersWit
   pub answered : answers.answers ≡ committed listed.classes history
   pub room_for_answers : length listed.classes ≤ room_of answers
   pub table_of : IsTableOf listed history (length answers.answers) table
-  pub few_questions : length table.questions ≤ length table.classes
   pub withdrawals_made : withdrawn ≡ withdrawals history
   pub unspent : 3 * length listed.classes + 2 * length listed.classes * withdrawn + withdrawn ≤ 131072
   pub short : length history + count_by is_open_mark table.questions + length answers.answers

@@ -11,6 +11,7 @@ use Rattle.survey_core.specs.declared.broken.Broken.TheVariants.{Class, Ranked, 
 use Rattle.survey_core.specs.Histories.{is_issued, class_at, committed, open_questions, IsOpenQuestion, is_ranked, withdrawals}
 use Rattle.survey_core.specs.Legal.{IsPlace, IsUnranked, AreEarlierAsked, OpensPlace, IsUneliminated, IsEliminated, OpensQuestion, MeetsWith, IsLastAnswer, IsSpent}
 
+-- the first part that an Eliminate lacks
 abbrev pub EliminateFails : Listed → List Event → ℕ → Side → Combination → Broken → Type 0
 EliminateFails listed history place verdict combination Class = ¬ IsPlace listed place
 EliminateFails listed history place verdict combination Ranked = IsPlace listed place × IsTrue (is_ranked history place)
@@ -19,6 +20,7 @@ EliminateFails listed history place verdict combination (Flaw flaw) =
     × IsSomeAnd (class_at listed.classes place) (λ pair. IsFirstFlaw listed.criteria.levels (committed listed.classes history) combination pair verdict (Some flaw))
 EliminateFails listed history place verdict combination _ = ⊥
 
+-- the first part that an Issue lacks
 abbrev pub IssueFails : Listed → List Event → ℕ → List ℤ → List ℤ → Broken → Type 0
 IssueFails listed history place plus minus Class = ¬ IsPlace listed place
 IssueFails listed history place plus minus Ranked = IsPlace listed place × IsTrue (is_ranked history place)
@@ -33,6 +35,7 @@ IssueFails listed history place plus minus Vectors =
     × AreEarlierAsked history place × (¬ OpensPlace listed history place plus minus)
 IssueFails listed history place plus minus _ = ⊥
 
+-- the first part that a Commit lacks
 abbrev pub CommitFails : Listed → List Event → ℕ → Side → List ℤ → List ℤ → List ℤ → Broken → Type 0
 CommitFails listed history question side plus minus point Question = ¬ IsOpenQuestion history question
 CommitFails listed history question side plus minus point Ranked = IsOpenQuestion history question × IsEliminated history question
@@ -43,11 +46,13 @@ CommitFails listed history question side plus minus point Point =
     × (¬ MeetsWith listed history question side point)
 CommitFails listed history question side plus minus point _ = ⊥
 
+-- the first part that a Close lacks
 abbrev pub CloseFails : List Event → ℕ → Broken → Type 0
 CloseFails history question Question = ¬ IsOpenQuestion history question
 CloseFails history question Unranked = IsOpenQuestion history question × IsUneliminated history question
 CloseFails history question _ = ⊥
 
+-- the first part that a Withdraw lacks
 abbrev pub WithdrawFails : Listed → List Event → ℕ → Broken → Type 0
 WithdrawFails listed history answer Nothing = ¬ IsLastAnswer listed history answer
 WithdrawFails listed history answer Spent = IsLastAnswer listed history answer × IsSpent (length listed.classes) (withdrawals history)

@@ -1,5 +1,6 @@
 // What a history comes to, kept for each class and each question.
 ghost use Rattle.std.specs.Prelude.{◌≡◌, ◌↔◌, ◌⊎◌, ◌+◌, ◌-◌, ◌^◌, ◌<◌, ◌≤◌, [], ◌∷◌, ◌++◌, Some, None, length, map, replicate, count_by, slice_get, IsTrue, IsFalse, IfOk, MatchOption};
+ghost use Rattle.std.specs.Option.{option_map};
 ghost use Rattle.survey_core.specs.declared.marks.Mark.{Mark};
 ghost use Rattle.survey_core.specs.declared.marks.Question.{Question};
 ghost use Rattle.survey_core.specs.declared.marks.Ending.TheVariants.{Open as StillOpen};
@@ -18,6 +19,7 @@ pub(crate) enum Ranking {
 }
 
 impl Ranking {
+    /// Whether the class is ranked.
     pub fn is_ranked(&self) -> bool
         ensures { result ≡ is_ranking self.now }
     {
@@ -27,6 +29,7 @@ impl Ranking {
         }
     }
 
+    /// Whether it is eliminated.
     pub fn is_eliminated(&self) -> bool
         ensures { result ≡ is_elimination self.now }
     {
@@ -48,6 +51,7 @@ impl Ranking {
     }
 }
 
+/// What is marked of a class.
 #[derive(Clone, Copy)]
 pub(crate) struct Mark {
     pub ranking: Ranking,
@@ -55,6 +59,7 @@ pub(crate) struct Mark {
 }
 
 impl Mark {
+    /// Whether the class is ranked or issued.
     fn is_settled(&self) -> bool
         ensures { result ≡ is_settled self.now }
     {
@@ -73,6 +78,7 @@ pub(crate) enum Ending {
 }
 
 impl Ending {
+    /// Whether the question has not ended.
     pub fn is_open(&self) -> bool
         ensures { result ≡ is_open self.now }
     {
@@ -94,6 +100,7 @@ impl Ending {
     }
 }
 
+/// What is marked of a question; `place` is that of the class that it asks.
 #[derive(Clone, Copy)]
 pub(crate) struct Question {
     pub place: u32,
@@ -107,7 +114,7 @@ pub(crate) struct Marks {
     questions: Vec<Question>,
     // How many classes are ranked, and how many questions are open.
     ranked: u32,
-    open: u32,
+    open_count: u32,
     // How many classes in front are each ranked or issued; the next one is neither.
     settled: u32,
 }
@@ -121,7 +128,7 @@ impl std::marker::Model for Marks {
 
     ghost view = { λ m. record { classes = m.classes.items; questions = m.questions.items } };
 
-    ghost invariant = { λ m. IsTable (record { classes = m.classes.items; questions = m.questions.items }) (vec_capacity m.questions) m.ranked m.open m.settled };
+    ghost invariant = { λ m. IsTable (record { classes = m.classes.items; questions = m.questions.items }) (vec_capacity m.questions) m.ranked m.open_count m.settled };
 }
 
 impl Marks {
@@ -138,7 +145,7 @@ impl Marks {
             classes: vec![in alloc; unmarked; classes]?,
             questions: Vec::with_capacity(alloc, classes)?,
             ranked: 0,
-            open: 0,
+            open_count: 0,
             settled: 0,
         })
     }
@@ -164,11 +171,20 @@ impl Marks {
         self.questions.as_slice().get(number as usize - 1).copied()
     }
 
+    /// The place of the class that the question of a number asks.
+    pub fn asked_place(&self, number: u32) -> u32
+        requires low { 1 ≤ number }
+        requires high { number ≤ length self.now.questions }
+        ensures { option_map (λ question. question.place) (slice_get self.now.questions (number - 1)) ≡ Some result }
+    {
+        self.questions[number as usize - 1].place
+    }
+
     /// How many questions are open.
     pub fn open_questions(&self) -> u32
         ensures { result ≡ count_by is_open_mark self.now.questions }
     {
-        self.open
+        self.open_count
     }
 
     /// Whether each class is ranked.
@@ -209,7 +225,6 @@ impl Marks {
         requires before { (mark : Mark) → slice_get self.old.classes (place - 1) ≡ Some mark → IsFalse mark.issued }
         ensures classes { self.new.classes ≡ with_issued self.old.classes (place - 1) }
         ensures questions { self.new.questions ≡ self.old.questions ++ record { place = place; ending = StillOpen } ∷ [] }
-        ensures few { length self.new.questions ≤ length self.new.classes }
     {
         let mark = &mut self.classes[place as usize - 1];
         mark.issued = true;
@@ -217,7 +232,7 @@ impl Marks {
             place,
             ending: Ending::Open,
         });
-        self.open += 1;
+        self.open_count += 1;
         self.settled = settled_from(self.classes.as_slice(), self.settled as usize) as u32;
     }
 
@@ -232,7 +247,7 @@ impl Marks {
     {
         let question = &mut self.questions[number as usize - 1];
         question.ending = ending;
-        self.open -= 1;
+        self.open_count -= 1;
     }
 
     /// Takes back what rests on this answer or on later ones.
@@ -243,7 +258,7 @@ impl Marks {
         unrank(self.classes.as_mut_slice(), answer);
         reopen(self.questions.as_mut_slice(), answer);
         self.ranked = count_ranked(self.classes.as_slice());
-        self.open = count_open(self.questions.as_slice());
+        self.open_count = count_open(self.questions.as_slice());
         self.settled = settled_from(self.classes.as_slice(), 0) as u32;
     }
 }
@@ -264,6 +279,7 @@ fn settled_from(classes: &[Mark], from: usize) -> usize
     classes.len()
 }
 
+/// How many classes are ranked.
 fn count_ranked(classes: &[Mark]) -> u32
     requires { length classes.now ≤ 16384 }
     ensures { result ≡ count_by is_ranked_mark classes.now }
@@ -274,6 +290,7 @@ fn count_ranked(classes: &[Mark]) -> u32
         .count() as u32
 }
 
+/// How many questions are open.
 fn count_open(questions: &[Question]) -> u32
     requires { length questions.now ≤ 16384 }
     ensures { result ≡ count_by is_open_mark questions.now }
@@ -284,6 +301,7 @@ fn count_open(questions: &[Question]) -> u32
         .count() as u32
 }
 
+/// Takes back the rankings that rest on this answer or on later ones.
 fn unrank(classes: &mut [Mark], answer: u32)
     ensures { classes.new ≡ map (left_mark answer) classes.old }
 {
@@ -292,6 +310,7 @@ fn unrank(classes: &mut [Mark], answer: u32)
     }
 }
 
+/// Opens the questions again whose ends rest on this answer or on later ones.
 fn reopen(questions: &mut [Question], answer: u32)
     ensures { questions.new ≡ map (left_question answer) questions.old }
 {

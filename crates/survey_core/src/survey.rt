@@ -9,17 +9,19 @@ ghost use Rattle.pair_enumeration.specs.Listed.{IsListed};
 ghost use Rattle.pair_enumeration.specs.Places.{StandsAt};
 ghost use Rattle.survey_core.specs.Histories.{issued, is_issued, place_of, class_at, committed, is_ranked, is_eliminated, open_questions, IsOpenQuestion, withdrawals as withdrawals_of};
 ghost use Rattle.survey_core.specs.Legal.{IsEvent, IsPlace, AreEarlierAsked, OpensPlace, MayEliminate, MayIssue, MayCommit, MayClose, MayWithdraw, MayFollow, IsLegal};
+ghost use Rattle.survey_core.specs.Laws.{last_point};
+ghost use Rattle.survey_core.specs.Marked.{greatest_cited};
 ghost use Rattle.survey_core.specs.Verdicts.{EliminateFails, IssueFails, CommitFails, CloseFails, WithdrawFails, FailsFirst};
 ghost use Rattle.survey_core.specs.States.{HasState};
 
 use crate::broken::Broken;
 use crate::events::Event;
 use crate::limits::spent;
-use crate::marks::Marks;
+use crate::marks::{Ending, Marks, Ranking};
 use crate::questions::QuestionState;
 use answer_rows::Answers;
-use criteria_model::{Model, Pair, Side, Vector};
-use farkas_check::{Combination, Flaw};
+use criteria_model::{Answer, Model, Pair, Side, Vector};
+use farkas_check::{Cites, Combination, Flaw};
 use pair_enumeration::Classes;
 use std::alloc::{AllocError as NoMemory, Global};
 use std::snapshot::Snapshot;
@@ -110,6 +112,7 @@ impl Core {
         }
     }
 
+    /// Whether the class at the place may be eliminated by the combination.
     fn may_eliminate(
         &self,
         place: u32,
@@ -134,6 +137,7 @@ impl Core {
         }
     }
 
+    /// What keeps the combination from proving the verdict, or none.
     fn flaw(&self, place: u32, verdict: Side, combination: &Combination) -> Option<Flaw>
         requires place { IsPlace self.now.listed place }
         requires len { length combination.now.increments ≡ increments self.now.listed.criteria.levels }
@@ -146,12 +150,14 @@ impl Core {
         farkas_check::flaw(&model, &self.answers, combination, &pair, verdict)
     }
 
+    /// Whether a class has the place.
     fn has_class(&self, place: u32) -> bool
         ensures { IsTrue result ↔ IsPlace self.now.listed place }
     {
         place >= 1 && place <= self.classes.count()
     }
 
+    /// Whether the class at the place may be issued with these vectors.
     fn may_issue(&self, place: u32, plus: &Vector, minus: &Vector) -> Result<(), Broken>
         requires plus { IsValueVector self.now.listed.criteria.levels plus.now }
         requires minus { IsValueVector self.now.listed.criteria.levels minus.now }
@@ -180,6 +186,7 @@ impl Core {
         Ok(())
     }
 
+    /// Whether the class at the place was issued.
     fn is_issued(&self, place: u32) -> bool
         requires { IsPlace self.now.listed place }
         ensures { result ≡ is_issued self.now.history place }
@@ -207,6 +214,7 @@ impl Core {
         opens(&model, &self.answers, &pair, plus, minus)
     }
 
+    /// Whether the question may be answered so, with these vectors and this point.
     fn may_commit(
         &self,
         question: u32,
@@ -251,6 +259,7 @@ impl Core {
         }
     }
 
+    /// Whether the class at the place has an eliminate that stands.
     fn is_eliminated(&self, place: u32) -> bool
         requires { IsPlace self.now.listed place }
         ensures { result ≡ is_eliminated self.now.history place }
@@ -271,6 +280,7 @@ impl Core {
         meets(&model, &self.answers, point) && ranks(&model, point, &pair, side)
     }
 
+    /// Whether the question may be closed.
     fn may_close(&self, question: u32) -> Result<(), Broken>
         ensures { MatchResult result
             (λ _. MayClose self.now.history question)
@@ -285,6 +295,7 @@ impl Core {
         Ok(())
     }
 
+    /// Whether the answer may be taken back.
     fn may_withdraw(&self, answer: u32) -> Result<(), Broken>
         ensures { MatchResult result
             (λ _. MayWithdraw self.now.listed self.now.history answer)
@@ -297,6 +308,46 @@ impl Core {
             return Err(Broken::Spent);
         }
         Ok(())
+    }
+
+    /// Puts an event that may follow at the end of the history. It takes no memory.
+    pub fn apply(&mut self, event: &Event)
+        requires event { IsEvent self.old.listed.criteria.levels event.now }
+        requires allowed { MayFollow self.old.listed self.old.history event.now }
+        ensures listed { self.new.listed ≡ self.old.listed }
+        ensures history { self.new.history ≡ self.old.history ++ event.now ∷ [] }
+        ensures legal { IsLegal self.new.listed self.new.history }
+        ensures met { MeetsAll self.new.listed.criteria.levels (committed self.new.listed.classes self.new.history) (last_point self.new.listed.criteria.levels self.new.history) }
+    {
+        self.events.push_reserved(Snapshot::of(event));
+        match event {
+            Event::Eliminate {
+                place,
+                combination,
+                ..
+            } => {
+                let rests_on = last_cited(&combination.answers);
+                self.marks.rank(*place, Ranking::Eliminated { rests_on });
+            }
+            Event::Issue { place, .. } => self.marks.issue(*place),
+            Event::Commit { question, side, .. } => {
+                let answer = self.answers.len() + 1;
+                let place = self.marks.asked_place(*question);
+                let pair = self.classes.class(place);
+                self.answers.push(Answer { pair, side: *side });
+                self.marks.rank(place, Ranking::Committed { answer });
+                self.marks.end(*question, Ending::Committed { answer });
+            }
+            Event::Close { question, .. } => {
+                let rests_on = self.answers.len();
+                self.marks.end(*question, Ending::Closed { rests_on });
+            }
+            Event::Withdraw { answer, .. } => {
+                self.answers.cut(*answer - 1);
+                self.marks.withdraw(*answer);
+                self.withdrawals += 1;
+            }
+        }
     }
 
     /// The model.
@@ -391,6 +442,17 @@ fn ranks(model: &Model, vector: &Vector, pair: &Pair, side: Side) -> bool
         Side::Right => left < right,
         Side::Equal => left == right,
     }
+}
+
+/// The greatest number of a cited answer, which is that of the last cite; 0 where none is cited.
+fn last_cited(cites: &Cites) -> u32
+    ensures { result ≡ greatest_cited cites.now }
+{
+    let count = cites.len();
+    if count == 0 {
+        return 0;
+    }
+    cites.cite(count).answer
 }
 
 #[cfg(test)]

@@ -1,6 +1,7 @@
 //! What lies behind the locks: a number of steps, with an empty journal.
 use turn_lock::Journalled;
 
+/// What is stepped: a plain number.
 #[derive(Drop)]
 pub struct Counter {
     pub steps: u64,

@@ -1,10 +1,10 @@
 -- Laws of whole numbers: products over sums, quotients that are alone, and numbers that go to bits and back.
-use Rattle.std.proofs.Common.{◌≡◌, ℕ, ◌*◌, ◌<◌, ◌≤◌, ◌^◌, ℤ, pos, neg_ℤ, ◌+ℤ◌, ◌-ℤ◌, ◌*ℤ◌, zero, suc, refl, unsigned_abs, ap, arith, to_z, of_z}
+use Rattle.std.proofs.Common.{◌≡◌, ◌∙◌, ℕ, ◌+◌, ◌*◌, ◌<◌, ◌≤◌, ◌^◌, ℤ, pos, neg_ℤ, ◌+ℤ◌, ◌-ℤ◌, ◌*ℤ◌, zero, suc, refl, unsigned_abs, ap, sym, arith, to_z, of_z, FitsSigned}
 use Rattle.std.proofs.lemmas.Int.{ints, unsigned_abs-mul, to_z-of_z, fits_signed_from_abs, quot-rem, rem_below}
 use Rattle.std.proofs.lemmas.Nat.{mul-lt}
 use Rattle.std.specs.Int.{Width}
 use Rattle.std.specs.Int.RustNames.{int_div}
-use borrow.Author.Differences.{up, down, sum_is_lem, neg_is}
+use borrow.Author.Differences.{up, down, sum_is_lem, product_is, neg_is, same_in}
 use mir.Val.{hbits}
 
 -- a factor goes into a sum
@@ -19,6 +19,12 @@ neg-mul a b =
 
 pub sub-mul : (a b c : ℤ) → (a -ℤ b) *ℤ c ≡ a *ℤ c -ℤ b *ℤ c
 sub-mul a b c = let h = add-mul a (neg_ℤ b) c in let k = neg-mul b c in omega (arith, ints)
+
+pub mul_assoc : (a b c : ℤ) → (a *ℤ b) *ℤ c ≡ a *ℤ (b *ℤ c)
+mul_assoc a b c =
+    let p = product_is a b in
+    let q = product_is b c in
+    same_in ((a *ℤ b) *ℤ c) (a *ℤ (b *ℤ c)) (omega (arith, product_is (a *ℤ b) c, product_is a (b *ℤ c), ap (λ n. n * up c) p.0, ap (λ n. n * down c) p.0, ap (λ n. n * up c) p.1, ap (λ n. n * down c) p.1, ap (λ n. up a * n) q.0, ap (λ n. up a * n) q.1, ap (λ n. down a * n) q.0, ap (λ n. down a * n) q.1))
 
 pub abs-zero : (a : ℤ) → unsigned_abs a ≡ 0 → a ≡ pos 0
 abs-zero a h = omega (arith, ints)
@@ -64,3 +70,25 @@ divided_back w x e q h p x_size e_size =
 -- the difference of two products, whose factors are read from their bits
 pub products_back : (w : Width) (a b c d : ℤ) → unsigned_abs a < 2 ^ hbits w → unsigned_abs b < 2 ^ hbits w → unsigned_abs c < 2 ^ hbits w → unsigned_abs d < 2 ^ hbits w → to_z w (of_z w a) *ℤ to_z w (of_z w b) -ℤ to_z w (of_z w c) *ℤ to_z w (of_z w d) ≡ a *ℤ b -ℤ c *ℤ d
 products_back w a b c d h k l m = rw (read_back w a h, read_back w b k, read_back w c l, read_back w d m) refl
+
+pub difference-abs-le : (x y : ℤ) → unsigned_abs (x -ℤ y) ≤ unsigned_abs x + unsigned_abs y
+difference-abs-le x y = omega (arith, ints)
+
+-- a difference, whose two numbers are read from their bits
+pub difference_back : (w : Width) (x y : ℤ) → unsigned_abs x + unsigned_abs y < 2 ^ hbits w → to_z w (of_z w (to_z w (of_z w x) -ℤ to_z w (of_z w y))) ≡ x -ℤ y
+difference_back w x y h =
+    rw (read_back w x (omega arith), read_back w y (omega arith))
+    (read_back w (x -ℤ y) (omega (arith, difference-abs-le x y)))
+
+pub difference_fits : (w : Width) (x y : ℤ) → unsigned_abs x + unsigned_abs y < 2 ^ hbits w → FitsSigned w (to_z w (of_z w x) -ℤ to_z w (of_z w y))
+difference_fits w x y h =
+    rw (read_back w x (omega arith), read_back w y (omega arith))
+    (fits_signed_from_abs w (x -ℤ y) (omega (arith, difference-abs-le x y)))
+
+pub products_difference : (x y p q : ℤ) → x ≡ p → y ≡ q → x -ℤ y ≡ p -ℤ q
+products_difference x y p q e f = rw (e, f) refl
+
+-- the quotient of a difference is no larger than its two numbers are together
+pub quotient_size : (q e x y d : ℤ) (bound : ℕ) → 0 < unsigned_abs e → q *ℤ e ≡ d → x -ℤ y ≡ d → unsigned_abs x + unsigned_abs y < bound → unsigned_abs q < bound
+quotient_size q e x y d bound some exact is size =
+    omega (arith, factor-abs-le q e some, ap unsigned_abs (exact ∙ sym is), difference-abs-le x y)

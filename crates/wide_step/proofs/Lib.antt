@@ -1,3 +1,4 @@
 pub mod Integers
 pub mod DividedLemmas
 pub mod Product
+pub mod Inverses

@@ -13,3 +13,10 @@ pub record AreSmall (a b c d : ℤ) : Type 0 where
   pub b_size : unsigned_abs b < 2 ^ 62
   pub c_size : unsigned_abs c < 2 ^ 62
   pub d_size : unsigned_abs d < 2 ^ 62
+
+-- the four factors are below 2 ^ 31 in size
+pub record AreShort (a b c d : ℤ) : Type 0 where
+  pub a_size : unsigned_abs a < 2 ^ 31
+  pub b_size : unsigned_abs b < 2 ^ 31
+  pub c_size : unsigned_abs c < 2 ^ 31
+  pub d_size : unsigned_abs d < 2 ^ 31

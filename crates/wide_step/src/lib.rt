@@ -6,15 +6,19 @@ ghost use Rattle.std.specs.Int.{IsGcd};
 ghost use Rattle.wide_step.specs.Quotient.{HasQuotient, AreSmall};
 
 mod divided;
+mod divisor;
+mod inverse;
 
 use divided::signed_product;
+pub use divisor::Divisor;
 
 /// Factors below this size are multiplied directly: a product is then below 2^124.
 const SMALL: u128 = 1 << 62;
 
 /// The exact quotient `(a * b - c * d) / e`, although the products may need 240 bits.
 ///
-/// Where the four factors are below 2^62 in size it takes a few instructions.
+/// Where the four factors are below 2^62 in size it takes two products and one division. For many
+/// steps with one divisor there is `Divisor`.
 pub fn step(a: i128, b: i128, c: i128, d: i128, e: i128) -> i128
     requires a_size { unsigned_abs a < 2 ^ 120 }
     requires b_size { unsigned_abs b < 2 ^ 120 }

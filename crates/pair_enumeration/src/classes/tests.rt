@@ -1,4 +1,5 @@
 use super::*;
+use criteria_model::ModelFault;
 use std::test::Fail;
 
 /// The list of three criteria of three levels, from its first pair to its last.
@@ -49,5 +50,25 @@ fn places_of_alternatives(rt: HostRuntime) -> Result<(), Fail> {
     let b = Tuple::of(&[1, 2, 3]);
     assert_eq!(rt; classes.place_of(&a, &b), Some((1, Flip::Kept)));
     assert_eq!(rt; classes.place_of(&b, &a), Some((1, Flip::Turned)));
+    Ok(())
+}
+
+/// How many classes the list has: 24 criteria of two levels, and six of four. One degree more for the first
+/// makes no model, so there is no list.
+#[test]
+fn class_counts(rt: HostRuntime) -> Result<(), Fail> {
+    let table: [(&[u32], u32, u32); 4] = [
+        (&[2; 24], 2, 276),
+        (&[2; 24], 3, 6_348),
+        (&[4; 6], 2, 540),
+        (&[4; 6], 3, 13_500),
+    ];
+    for (levels, degree, want) in table {
+        let model = Model::new(levels, degree).ok().expect(&rt, "a model");
+        let classes = Classes::list(rt.alloc(), &model)?;
+        assert_eq!(rt; classes.count(), want);
+    }
+    let refused = Model::new(&[2; 24], 4).err();
+    assert_eq!(rt; refused, Some(ModelFault::Classes { count: 80_730 }));
     Ok(())
 }

@@ -1,11 +1,11 @@
-use Rattle.std.proofs.Common.{◌≡◌, ◌≢◌, ◌∙◌, ◌<◌, ◌≤◌, ◌+◌, ◌^◌, ℕ, ℤ, pos, ◌*ℤ◌, ◌-ℤ◌, unsigned_abs, List, [], length, get_or, set, to_z, of_z, sym, ap, subst, arith}
-use Rattle.std.proofs.lemmas.List.{get_or_default, length-set}
+use Rattle.std.proofs.Common.{◌≡◌, ◌≢◌, ◌∙◌, ◌<◌, ℕ, ℤ, ◌*ℤ◌, ◌-ℤ◌, List, [], length, get_or, to_z, of_z, ap, subst, arith}
+use Rattle.std.proofs.lemmas.List.{get_or_default}
 use Rattle.std.specs.Int.{w128}
 use Rattle.wide_step.specs.Quotient.{HasQuotient}
 use Rattle.wide_step.proofs.Integers.{read_back}
 use Rattle.fraction_free.specs.Changes.{number_at, IsOtherLine, IsPivotLine}
 use Rattle.fraction_free.specs.Representation.{CanExchange}
-use Rattle.fraction_free.proofs.LineSteps.{AreExchangedTo, lines_left, lines_exchanged}
+use Rattle.fraction_free.proofs.LineSteps.{lines_left, lines_exchanged}
 use Rattle.fraction_free.proofs.lines.exchange_lines.Goals as goal
 use Rattle.fraction_free.proofs.lines.exchange_lines.Goals.{then-row-at, else-row-at}
 
@@ -20,7 +20,7 @@ pub exchange-requires-clause-exact : goal.exchange-requires-clause-exact
 exchange-requires-clause-exact c =
     let v = c.loop-row.invariant in
     exact_along c.args.scale _ c.args.at c.args.column c.loop-row.row c.args.lines.now c.args.pivot.now _
-    (read_back w128 c.args.scale (omega (arith, c.requires.exact.scale_size))) c.requires.pivot
+    (c.of-divisor.ensures ∙ read_back w128 c.args.scale (omega (arith, c.requires.exact.scale_size))) c.requires.pivot
     (get_or_default c.loop-row.lines c.loop-row.row _ [] (omega (arith, v.len)) ∙ v.rest c.loop-row.row (omega arith))
     c.requires.exact (omega (arith, v.len)) c.if-row-at.false
 
@@ -37,5 +37,6 @@ loop-row-preserved c =
       | else-row-at w ↦
           lines_exchanged (to_z w128 (of_z w128 c.args.scale)) c.args.at c.args.column old c.loop-row.lines c.if-row-at.lines row w.exchange.new.self v w.if-row-at.false (omega (arith, v.len)) w.lines-is
           (subst (λ (p : List ℤ). IsOtherLine (to_z w128 (of_z w128 c.args.scale)) c.args.column p (get_or old row []) w.exchange.new.self) c.requires.pivot
-          (subst (λ (p : List ℤ). IsOtherLine (to_z w128 (of_z w128 c.args.scale)) c.args.column c.args.pivot.now p w.exchange.new.self) line w.exchange.ensures))
+          (subst (λ (p : List ℤ). IsOtherLine (to_z w128 (of_z w128 c.args.scale)) c.args.column c.args.pivot.now p w.exchange.new.self) line
+          (subst (λ (s : ℤ). IsOtherLine s c.args.column c.args.pivot.now (get_or c.loop-row.lines row c.index-lines-row.result) w.exchange.new.self) c.of-divisor.ensures w.exchange.ensures)))
     ]

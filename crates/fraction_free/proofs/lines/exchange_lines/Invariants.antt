@@ -1,4 +1,3 @@
-use Rattle.std.proofs.Common.{◌≡◌, ◌≢◌, ◌<◌, ◌≤◌, ℕ, length, List, [], get_or}
 use Rattle.fraction_free.proofs.LineSteps.{AreExchangedTo}
 use Rattle.fraction_free.proofs.lines.exchange_lines.Given as goal
 

@@ -1,4 +1,4 @@
-use Rattle.std.proofs.Common.{◌≡◌, ◌<◌, ℕ, pos, List, [], get_or}
+use Rattle.std.proofs.Common.{◌≡◌, ◌<◌, ℕ, pos, [], get_or}
 use Rattle.fraction_free.specs.Changes.{number_at}
 use Rattle.fraction_free.proofs.lines.first_row_with.Given as goal
 

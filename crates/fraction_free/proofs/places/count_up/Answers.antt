@@ -1,4 +1,4 @@
-use Rattle.std.proofs.Common.{◌≡◌, ◌∙◌, ◌≤◌, ◌+◌, ◌-◌, ℕ, List, [], ◌∷◌, ◌++◌, append_assoc, arith, subst, sym, ap}
+use Rattle.std.proofs.Common.{◌≡◌, ◌∙◌, ◌≤◌, ◌+◌, ◌-◌, ℕ, List, [], ◌∷◌, ◌++◌, append_assoc, arith, sym, ap}
 use Rattle.std.specs.List.{range_with_len}
 use Rattle.criteria_model.proofs.CountLemmas.{range_with_len-more}
 use Rattle.fraction_free.proofs.places.count_up.Goals as goal

@@ -1,4 +1,4 @@
-use Rattle.std.proofs.Common.{◌≡◌, ◌∙◌, ◌<◌, ◌+◌, ◌^◌, ℕ, ℤ, pos, ◌+ℤ◌, ◌*ℤ◌, unsigned_abs, List, length, set, replicate, sym, ap, subst, refl, arith}
+use Rattle.std.proofs.Common.{◌≡◌, ◌<◌, ℕ, ℤ, ◌+ℤ◌, ◌*ℤ◌, List, length, set, refl, arith}
 use Rattle.fraction_free.specs.Changes.{number_at}
 use Rattle.fraction_free.specs.Representation.{IsAdded, factors_at}
 use Rattle.fraction_free.proofs.Sums.{sum_back}

@@ -1,4 +1,4 @@
-use Rattle.std.proofs.Common.{◌≡◌, ◌≤◌, ◌+◌, ℕ, neg_ℤ, ◌+ℤ◌, fold, take, unsigned_abs}
+use Rattle.std.proofs.Common.{◌≡◌, ◌≤◌, ◌+◌, neg_ℤ, ◌+ℤ◌, fold, take, unsigned_abs}
 use Rattle.fraction_free.proofs.slack_line.constant_of.Given as goal
 
 abbrev pub invariant-loop-coefficient : goal.invariant-loop-coefficient

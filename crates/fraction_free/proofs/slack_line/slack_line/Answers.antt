@@ -1,13 +1,10 @@
-use Rattle.std.proofs.Common.{◌≡◌, ◌∙◌, ◌<◌, ◌≤◌, ◌+◌, ◌-◌, ◌*◌, ◌^◌, ℕ, ℤ, pos, unsigned_abs, List, [], length, get_or, replicate, Some, to_z, of_z, sym, ap, subst, refl, arith}
+use Rattle.std.proofs.Common.{◌≡◌, ◌∙◌, ◌<◌, ◌≤◌, ◌+◌, ◌-◌, ◌*◌, ◌^◌, ℕ, ℤ, pos, unsigned_abs, List, length, replicate, to_z, of_z, sym, ap, subst, arith}
 use Rattle.std.proofs.lemmas.List.{length-replicate}
 use Rattle.std.proofs.lemmas.Option.{get_or_from_slice_get}
-use Rattle.std.proofs.lemmas.Int.{to_z-of_z, fits_signed_from_abs}
+use Rattle.std.proofs.lemmas.Int.{to_z-of_z}
 use Rattle.std.specs.Int.{w8, w128}
-use Rattle.minors.specs.Combination.{IsCombination}
 use Rattle.wide_step.proofs.Integers.{read_back}
-use Rattle.fraction_free.specs.declared.loaded.LoadedRow.{LoadedRow}
 use Rattle.fraction_free.specs.Changes.{number_at}
-use Rattle.fraction_free.specs.Representation.{IsMinorTableau, row_of, square_of, IsAdded}
 use Rattle.fraction_free.proofs.SlackLine.{zeros_at, first_line, next_line, last_line, added_size, factor_size}
 use Rattle.fraction_free.proofs.slack_line.slack_line.Goals as goal
 

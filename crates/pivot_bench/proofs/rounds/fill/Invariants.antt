@@ -1,4 +1,4 @@
-use Rattle.std.proofs.Common.{◌≡◌, ◌+◌, ℕ, length}
+use Rattle.std.proofs.Common.{◌≡◌, ◌+◌, length}
 use Rattle.pivot_bench.proofs.rounds.fill.Given as goal
 
 abbrev pub invariant-loop-row : goal.invariant-loop-row

@@ -1,12 +1,10 @@
-use Rattle.std.proofs.Common.{◌≡◌, ◌∙◌, ◌⊎◌, ◌<◌, ◌≤◌, ◌+◌, ◌-◌, ℕ, ℤ, pos, Bool, true, cond, List, [], ◌∷◌, ◌++◌, length, vec_len, to_z, of_z, sym, ap, subst, refl, arith}
+use Rattle.std.proofs.Common.{◌≡◌, ◌∙◌, ◌<◌, ℕ, ℤ, Bool, true, cond, List, [], ◌∷◌, ◌++◌, length, vec_len, to_z, of_z, sym, ap, subst, arith}
 use Rattle.std.proofs.lemmas.Int.{to_z-of_z}
 use Rattle.std.specs.Int.{w8, w128}
 use Rattle.std.specs.Prelude.{vec_capacity}
-use Rattle.criteria_model.specs.Lists.{IsRow}
 use Rattle.minors.specs.Combination.{IsCombination}
 use Rattle.wide_step.proofs.Integers.{read_back}
 use Rattle.fraction_free.specs.declared.loaded.LoadedRow.{LoadedRow}
-use Rattle.fraction_free.specs.Arrangement.{Arranged}
 use Rattle.fraction_free.specs.Tableau.{Tableau, IsLoadable}
 use Rattle.fraction_free.specs.Representation.{CanCombine, IsMinorTableau, row_of, square_of}
 use Rattle.fraction_free.proofs.AddRow.{added_kept, added_view, can_combine}

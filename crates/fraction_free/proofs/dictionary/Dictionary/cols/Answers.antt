@@ -1,8 +1,6 @@
 use Rattle.std.proofs.Common.{subst}
 use Rattle.fraction_free.specs.Tableau.{IsDictionary}
 use Rattle.fraction_free.proofs.Kept.{dictionary_from_kept}
-use Rattle.fraction_free.proofs.DropRow.{popped_minors, popped_solutions}
-use Rattle.fraction_free.proofs.Kept.{can_exchange}
 use Rattle.fraction_free.proofs.dictionary.Dictionary.cols.Goals as goal
 
 pub returns-clause-dictionary : goal.returns-clause-dictionary

@@ -1,8 +1,7 @@
-use Rattle.std.proofs.Common.{◌≡◌, ◌≢◌, ◌∙◌, ◌<◌, ◌≤◌, ◌+◌, ◌-◌, ℕ, List, [], length, take, drop, get_or, vec_len, sym, ap, subst, refl, arith}
+use Rattle.std.proofs.Common.{◌≡◌, ◌∙◌, ◌+◌, ◌-◌, length, take, drop, get_or, vec_len, sym, ap, arith}
 use Rattle.std.proofs.lemmas.List.{get_or-drop, get_or_default, length-drop}
 use Rattle.std.proofs.lemmas.List.Edits.{length-swap}
-use Rattle.std.specs.List.{swap, SwappedAt}
-use Rattle.fraction_free.specs.declared.loaded.LoadedRow.{LoadedRow}
+use Rattle.std.specs.List.{swap}
 use Rattle.fraction_free.specs.Arrangement.{Arranged}
 use Rattle.fraction_free.specs.Tableau.{Tableau}
 use Rattle.fraction_free.proofs.PivotKept.{swapped_at}

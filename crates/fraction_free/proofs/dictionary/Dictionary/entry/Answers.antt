@@ -1,4 +1,4 @@
-use Rattle.std.proofs.Common.{◌≡◌, ◌-◌, ℕ, length, ap, arith}
+use Rattle.std.proofs.Common.{◌≡◌, ◌-◌, length, ap, arith}
 use Rattle.fraction_free.specs.Tableau.{Tableau}
 use Rattle.fraction_free.proofs.Kept.{read_len}
 use Rattle.fraction_free.proofs.dictionary.Dictionary.entry.Goals as goal

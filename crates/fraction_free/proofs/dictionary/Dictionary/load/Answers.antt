@@ -1,4 +1,4 @@
-use Rattle.std.proofs.Common.{◌≡◌, ◌∙◌, ◌≤◌, ◌+◌, ℕ, pos, List, length, sym, ap, refl, arith}
+use Rattle.std.proofs.Common.{◌≡◌, ◌∙◌, ℕ, pos, ap, refl, arith}
 use Rattle.fraction_free.specs.Arrangement.{Arranged}
 use Rattle.fraction_free.specs.Changes.{empty_tableau, next_count}
 use Rattle.fraction_free.specs.Tableau.{Tableau}

@@ -1,10 +1,10 @@
-use Rattle.std.proofs.Common.{◌≡◌, ◌≢◌, ◌∙◌, ◌<◌, ◌≤◌, ◌+◌, ◌-◌, ◌^◌, ℕ, ℤ, pos, unsigned_abs, List, [], length, get_or, set, take, drop, to_z, of_z, sym, ap, subst, refl, arith}
+use Rattle.std.proofs.Common.{◌≡◌, ◌≢◌, ◌+◌, ◌-◌, ℕ, ℤ, pos, length, to_z, of_z, sym, ap, subst, refl, arith}
 use Rattle.std.specs.Int.{w128}
 use Rattle.wide_step.proofs.Integers.{read_back}
 use Rattle.fraction_free.specs.Arrangement.{Arranged}
 use Rattle.fraction_free.specs.Changes.{number_at, IsPivoted}
-use Rattle.fraction_free.specs.Tableau.{Tableau, IsDictionary, Satisfies, line_of}
-use Rattle.fraction_free.specs.Representation.{CanExchange, IsKept}
+use Rattle.fraction_free.specs.Tableau.{Tableau, Satisfies, line_of}
+use Rattle.fraction_free.specs.Representation.{CanExchange}
 use Rattle.fraction_free.proofs.Kept.{can_exchange, scale_fits, dictionary_from_kept, satisfied}
 use Rattle.fraction_free.proofs.PivotKept.{IsExchange, exchange_from, exchanged_kept, exchanged_back_all, pivoted_from}
 use Rattle.fraction_free.proofs.dictionary.Dictionary.pivot.Goals as goal

@@ -1,4 +1,4 @@
-use Rattle.std.proofs.Common.{◌≡◌, ◌∙◌, ◌≤◌, ◌+◌, ℕ, pos, List, length, sym, ap, refl, arith}
+use Rattle.std.proofs.Common.{◌≡◌, ◌+◌, pos, ap, refl, arith}
 use Rattle.fraction_free.specs.Arrangement.{Arranged}
 use Rattle.fraction_free.proofs.Empty.{empty_kept, empty_view}
 use Rattle.fraction_free.proofs.Kept.{dictionary_from_kept}

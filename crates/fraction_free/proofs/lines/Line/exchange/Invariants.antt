@@ -1,6 +1,4 @@
-use Rattle.std.proofs.Common.{◌≡◌, ◌≢◌, ◌<◌, ◌≤◌, ℕ, ℤ, length}
-use Rattle.fraction_free.specs.Changes.{number_at}
-use Rattle.fraction_free.proofs.LineSteps.{IsExchangedTo, IsLeftTo}
+use Rattle.fraction_free.proofs.LineSteps.{IsExchangedTo}
 use Rattle.fraction_free.proofs.lines.Line.exchange.Given as goal
 
 abbrev pub invariant-loop-place : goal.invariant-loop-place

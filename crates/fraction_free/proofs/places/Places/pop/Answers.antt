@@ -1,4 +1,4 @@
-use Rattle.std.proofs.Common.{◌≡◌, ◌∙◌, ◌<◌, ◌-◌, ℕ, List, length, take, get_or, arith, subst, sym, ap}
+use Rattle.std.proofs.Common.{◌≡◌, ◌<◌, ◌-◌, ℕ, List, length, take, get_or, arith, ap}
 use Rattle.fraction_free.specs.Arrangement.{Arranged, TellsPlaces}
 use Rattle.fraction_free.proofs.Arrangements.{arrangement_from_places, popped_tells}
 use Rattle.fraction_free.proofs.places.Places.pop.Goals as goal

@@ -1,5 +1,5 @@
-use Rattle.std.proofs.Common.{◌≡◌, ◌∙◌, ◌<◌, ◌-◌, ℕ, List, [], ◌∷◌, ◌++◌, length, get_or, arith, subst, sym, ap}
-use Rattle.fraction_free.specs.Arrangement.{Arranged, IsArrangement, TellsPlaces}
+use Rattle.std.proofs.Common.{◌≡◌, ◌∙◌, ℕ, List, [], ◌∷◌, ◌++◌, length, arith}
+use Rattle.fraction_free.specs.Arrangement.{TellsPlaces}
 use Rattle.fraction_free.proofs.Arrangements.{arrangement_from_places, pushed_tells}
 use Rattle.fraction_free.proofs.places.Places.push.Goals as goal
 

@@ -1,4 +1,4 @@
-use Rattle.std.proofs.Common.{◌≡◌, ◌∙◌, ◌≤◌, ◌+◌, ℕ, List, [], ◌∷◌, ◌++◌, arith, subst, sym, ap}
+use Rattle.std.proofs.Common.{◌≡◌, ◌∙◌, ℕ, List, [], ◌∷◌, ◌++◌, arith, ap}
 use Rattle.std.specs.List.{range_with_len}
 use Rattle.fraction_free.specs.Arrangement.{TellsPlaces}
 use Rattle.fraction_free.proofs.Arrangements.{arrangement_from_places, first_tells}

@@ -15,7 +15,7 @@ overflow_sub-self c =
     let inside : c.args.number - 1 < length questions = omega (arith, ap (λ (l : List Question). length l) same) in
     let at : slice_get questions (c.args.number - 1) ≡ Some question =
     slice_get_read questions (length questions) (c.args.number - 1) question refl inside c.index_mut-question.ensures.value in
-    some_open c.self.inside.classes.items questions (vec_capacity c.self.inside.questions) c.self.inside.ranked c.self.inside.open c.self.inside.settled
+    some_open c.self.inside.classes.items questions (vec_capacity c.self.inside.questions) c.self.inside.ranked c.self.inside.open_count c.self.inside.settled
     c.self.invariant (c.args.number - 1) question at
     (c.requires.before question (ap (λ (l : List Question). slice_get l (c.args.number - 1)) (sym same) ∙ at))
 
@@ -27,7 +27,7 @@ invariant_of-self c =
     let inside : c.args.number - 1 < length questions = omega (arith, ap (λ (l : List Question). length l) same) in
     let at : slice_get questions (c.args.number - 1) ≡ Some question =
     slice_get_read questions (length questions) (c.args.number - 1) question refl inside c.index_mut-question.ensures.value in
-    ended_table c.self.inside.classes.items questions (vec_capacity c.self.inside.questions) c.self.inside.ranked c.self.inside.open c.self.inside.settled
+    ended_table c.self.inside.classes.items questions (vec_capacity c.self.inside.questions) c.self.inside.ranked c.self.inside.open_count c.self.inside.settled
     c.self.invariant (c.args.number - 1) question c.args.ending at
     (c.requires.before question (ap (λ (l : List Question). slice_get l (c.args.number - 1)) (sym same) ∙ at)) c.requires.after
 

@@ -1,5 +1,4 @@
 use Rattle.std.proofs.Common.{◌≡◌, ℕ, ◌-◌, ◌<◌, List, length, slice_get, slice_set, true, Some, Option, refl, ap, sym, subst, ◌∙◌, arith}
-use Rattle.std.proofs.lemmas.List.Sums.{count_by-le-length}
 use Rattle.std.specs.Option.{option_map_or}
 use Rattle.std.specs.Vec.{vec_capacity}
 use Rattle.std.proofs.lemmas.Option.{slice_get_read}
@@ -46,7 +45,7 @@ invariant_of-self c =
     let at : slice_get classes (c.args.place - 1) ≡ Some mark =
     slice_get_read classes (length classes) (c.args.place - 1) mark refl inside c.index_mut-mark.ensures.value in
     rw (c.push_reserved.ensures.items, c.push_reserved.ensures.capacity)
-    (issued_table classes c.self.inside.questions.items (vec_capacity c.self.inside.questions) c.self.inside.ranked c.self.inside.open c.self.inside.settled
+    (issued_table classes c.self.inside.questions.items (vec_capacity c.self.inside.questions) c.self.inside.ranked c.self.inside.open_count c.self.inside.settled
     c.self.invariant (c.args.place - 1) c.settled_from.result c.args.place mark at
     (c.requires.before mark (ap (λ (l : List Mark). slice_get l (c.args.place - 1)) (sym same) ∙ at)) c.as_slice.result.now c.as_slice.ensures.value
     c.settled_from.ensures.front c.settled_from.ensures.next c.settled_from.ensures.within)
@@ -61,8 +60,3 @@ returns-clause-classes c =
     let at : slice_get classes k ≡ Some mark = slice_get_read classes (length classes) k mark refl inside c.index_mut-mark.ensures.value in
     ap (λ (o : Option Mark). slice_set classes k (record { ranking = option_map_or (λ m. m.ranking) o Unranked; issued = true })) (sym at)
     ∙ ap (λ (l : List Mark). with_issued l k) same
-
-pub returns-clause-few : goal.returns-clause-few
-returns-clause-few c =
-    let classes : List Mark = slice_set c.self.inside.classes.items (c.args.place - 1) (record { ranking = c.index_mut-mark.result.now.ranking; issued = true }) in
-    omega (arith, (invariant_of-self c).asked_count, count_by-le-length (λ (m : Mark). m.issued) classes)

@@ -15,7 +15,7 @@ invariant_of-self c =
     let inside : c.args.place - 1 < length classes = omega (arith, ap (λ (l : List Mark). length l) same) in
     let at : slice_get classes (c.args.place - 1) ≡ Some mark =
     slice_get_read classes (length classes) (c.args.place - 1) mark refl inside c.index_mut-mark.ensures.value in
-    ranked_table classes c.self.inside.questions.items (vec_capacity c.self.inside.questions) c.self.inside.ranked c.self.inside.open c.self.inside.settled
+    ranked_table classes c.self.inside.questions.items (vec_capacity c.self.inside.questions) c.self.inside.ranked c.self.inside.open_count c.self.inside.settled
     c.self.invariant (c.args.place - 1) c.settled_from.result mark c.args.ranking at
     (c.requires.before mark (ap (λ (l : List Mark). slice_get l (c.args.place - 1)) (sym same) ∙ at)) c.requires.after c.as_slice.result.now c.as_slice.ensures.value
     c.settled_from.ensures.front c.settled_from.ensures.next c.settled_from.ensures.within

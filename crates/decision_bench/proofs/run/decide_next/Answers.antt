@@ -1,0 +1,24 @@
+-- One answer more, and the point that meets it.
+use Rattle.std.proofs.Common.{ℕ, ◌++◌, ◌∷◌, [], ap, sym, length, length-append, arith, subst, List}
+use Rattle.std.specs.Prelude.{All}
+use Rattle.std.proofs.lemmas.List.Elements.{All-push}
+use Rattle.criteria_model.specs.declared.pairs.Answer.{Answer}
+use Rattle.criteria_model.specs.Pairs.{IsFit}
+use Rattle.criteria_model.specs.Answers.{MeetsAll}
+use Rattle.decision_bench.proofs.run.decide_next.Goals as goal
+
+pub returns-in-Undecided : goal.returns-in-Undecided
+returns-in-Undecided c =
+    let answer : Answer = record { pair = c.class-pair.result; side = c.side_of-side.result } in
+    record {
+      rooms = record {
+        answers = omega (arith, c.push.ensures.room, c.requires.underway.rooms.answers);
+        columns = omega (arith, c.point_with-tools.ensures.up.room.columns, c.decide-decision.ensures.up.room.columns, c.begin.ensures.columns, c.requires.underway.rooms.columns);
+        rows = omega (arith, c.point_with-tools.ensures.up.room.rows, c.decide-decision.ensures.up.room.rows, c.begin.ensures.rows, c.requires.underway.rooms.rows);
+      };
+      most = omega (arith, c.requires.underway.most, ap length c.push.ensures.answers, length-append c.args.tools.now.snapshot.answers.answers (answer ∷ []));
+      fit = subst (λ (l : List Answer). All (λ a. IsFit c.args.classes.now.criteria.levels a.pair) l) (sym c.push.ensures.answers)
+          (All-push (λ a. IsFit c.args.classes.now.criteria.levels a.pair) c.args.tools.now.snapshot.answers.answers answer c.requires.underway.fit c.class-pair.ensures.class.fits);
+      met = subst (λ (l : List Answer). MeetsAll c.args.classes.now.criteria.levels l c.point_with-tools.result) (sym c.push.ensures.answers)
+          (subst (λ (l : List ℕ). MeetsAll l (c.args.tools.now.snapshot.answers.answers ++ (record { pair = c.class-pair.result; side = c.side_of-side.result }) ∷ []) c.point_with-tools.result) (ap (λ m. m.levels) c.model-model.ensures.value) c.point_with-tools.ensures.meets);
+    }

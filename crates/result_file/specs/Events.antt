@@ -1,0 +1,40 @@
+-- What the lines of a result say of events.
+use Rattle.std.specs.Prelude.{◌≡◌, ℕ, List, []}
+use Rattle.std.specs.Option.{option_map_or}
+use Rattle.criteria_model.specs.declared.pairs.Pair.{Pair}
+use Rattle.pair_enumeration.specs.Listed.{Listed}
+use Rattle.survey_core.specs.declared.events.Event.{Event}
+use Rattle.survey_core.specs.declared.events.Event.TheVariants as events
+use Rattle.survey_core.specs.Histories.{class_at}
+use Rattle.survey_core.specs.Legal.{IsPlace}
+use Rattle.result_file.specs.declared.entries.Entry.{Entry}
+use Rattle.result_file.specs.declared.entries.Entry.TheVariants.{Eliminate, Issue, Commit, Close, Withdraw}
+use Rattle.result_file.specs.Texts.{entry_line}
+
+-- the pair at a place of the class list; an event of a legal history never has another place
+abbrev pub pair_at : List Pair → ℕ → Pair
+pair_at classes place = option_map_or (λ pair. pair) (class_at classes place) (record { left = []; right = [] })
+
+-- what the line of an event says: of its class the pair, in place of the place
+abbrev pub entry_of : List Pair → Event → Entry
+entry_of classes (events.Eliminate worker place verdict combination) =
+    Eliminate (record { worker = worker; pair = pair_at classes place; verdict = verdict; combination = combination })
+entry_of classes (events.Issue desk place plus minus) = Issue desk (pair_at classes place) plus minus
+entry_of classes (events.Commit desk question side plus minus point) = Commit desk question side plus minus point
+entry_of classes (events.Close desk question) = Close desk question
+entry_of classes (events.Withdraw desk answer) = Withdraw desk answer
+
+-- the line of an event
+abbrev pub event_line : List Pair → Event → List ℕ
+event_line classes event = entry_line (entry_of classes event)
+
+-- where an event names a class by a place, a class has the place
+abbrev pub NamesClass : Listed → Event → Type 0
+NamesClass listed (events.Eliminate worker place verdict combination) = IsPlace listed place
+NamesClass listed (events.Issue desk place plus minus) = IsPlace listed place
+NamesClass listed _ = Unit {0}
+
+-- the entry tells this event
+pub record Tells (listed : Listed) (entry : Entry) (event : Event) : Type 0 where
+  pub class : NamesClass listed event
+  pub told : entry ≡ entry_of listed.classes event

@@ -1,0 +1,21 @@
+-- What a text can be.
+use Rattle.std.specs.Prelude.{◌≡◌, ℕ, List}
+use Rattle.result_file.specs.declared.verdicts.Checked.{Checked}
+use Rattle.result_file.specs.declared.verdicts.Checked.TheVariants.{ReadFault, NoMemory}
+use Rattle.result_file.specs.Checked.{IsFileOf, IsChecked}
+use Rattle.result_file.specs.Contents.{Content}
+
+-- a text is the file of one content at most
+abbrev pub OneContent : Type 0
+OneContent = (text : List ℕ) (one other : Content) → IsFileOf one text → IsFileOf other text → one ≡ other
+
+-- a verdict on the text itself: neither a read fault nor want of memory
+abbrev pub IsOnText : Checked → Type 0
+IsOnText ReadFault = ⊥
+IsOnText NoMemory = ⊥
+IsOnText _ = Unit {0}
+
+-- a text deserves one such verdict at most
+abbrev pub OneVerdict : Type 0
+OneVerdict =
+    (text : List ℕ) (one other : Checked) → IsOnText one → IsOnText other → IsChecked text one → IsChecked text other → one ≡ other

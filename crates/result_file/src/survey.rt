@@ -1,0 +1,155 @@
+// The events of a result, one after the other.
+ghost use Rattle.std.specs.Prelude.{◌≡◌, ◌≢◌, ◌↔◌, ◌+◌, ◌<◌, ◌≤◌, [], length, OnOk, IfOk, IfErr, MatchOption, IsTrue};
+ghost use Rattle.survey_core.specs.Laws.{IsComplete};
+ghost use Rattle.result_file.specs.Checked.{begun, Fails};
+ghost use Rattle.result_file.specs.Contents.{of_events};
+ghost use Rattle.result_file.specs.Events.{Tells};
+ghost use Rattle.result_file.specs.Kept.{StartsSurvey, AddsEvent};
+ghost use Rattle.result_file.specs.RightEvents.{NamesNoClass};
+ghost use Rattle.result_file.specs.Texts.{end_line};
+
+use crate::eliminations::Elimination;
+use crate::entries::{Entry, Format, entry_of};
+use crate::stops::Stop;
+use crate::verdicts::Part;
+use criteria_model::Model;
+use std::alloc::Global;
+use survey_core::{Core, Event};
+
+/// The most events of a file.
+const MOST_EVENTS: u32 = 131_072;
+
+/// The history that the events of a result make.
+#[derive(Drop)]
+pub(crate) struct Survey {
+    format: Format,
+    core: Core,
+    criteria: usize,
+    increments: usize,
+    // How many events came.
+    count: u32,
+}
+
+impl std::marker::Model for Survey {
+    ghost use Rattle.std.specs.Prelude.{◌≡◌, ◌≤◌, length};
+    ghost use Rattle.criteria_model.specs.Worth.{increments as increments_of};
+    ghost use Rattle.pair_enumeration.specs.Listed.{IsListed};
+    ghost use Rattle.result_file.specs.Kept.{KeptSurvey};
+
+    ghost Value = { KeptSurvey };
+
+    ghost view = { λ s. record { format = s.format; survey = s.core } };
+
+    ghost invariant = { λ s. IsListed s.core.listed × (s.criteria ≡ length s.core.listed.criteria.levels) × (s.increments ≡ increments_of s.core.listed.criteria.levels) × (s.count ≡ length s.core.history) × (s.count ≤ 131072) };
+}
+
+impl Survey {
+    /// No event yet. It takes all memory that is needed for more.
+    pub(crate) fn of(alloc: Global, format: Format, model: Model) -> Result<Survey, Stop>
+        ensures none { IfOk result (λ survey. StartsSurvey survey format model) }
+        ensures failed { IfErr result (λ stop. stop ≡ Stop.NoMemory) }
+    {
+        let criteria = usize::from(model.criteria());
+        let increments = usize::from(model.increments());
+        let core = Core::new(alloc, &model)?;
+        Ok(Survey {
+            format,
+            core,
+            criteria,
+            increments,
+            count: 0,
+        })
+    }
+
+    /// Adds the event of a line, or says which part of the line is wrong.
+    pub(crate) fn add(&mut self, line: &[u8]) -> Result<(), Part>
+        ensures added { OnOk result (AddsEvent self.old self.new line.now) }
+        ensures failed { IfErr result (λ part.
+            line.now ≢ end_line → Fails (begun (of_events self.old.format self.old.survey)) line.now part) }
+    {
+        let Some(entry) = entry_of(line, self.format, self.criteria, self.increments) else {
+            return Err(Part::Form);
+        };
+        if self.count >= MOST_EVENTS {
+            return Err(Part::Limit);
+        }
+        let Some(event) = event_of(&self.core, &entry) else {
+            return Err(Part::Class);
+        };
+        if let Err(broken) = self.core.allowed(&event) {
+            return Err(Part::from(broken));
+        }
+        self.core.apply(&event);
+        self.count += 1;
+        Ok(())
+    }
+
+    /// Whether each class has an eliminate or a commit that stands.
+    pub(crate) fn is_complete(&self) -> bool
+        ensures { IsTrue result ↔ IsComplete self.now.survey.listed self.now.survey.history }
+    {
+        self.core.all_ranked()
+    }
+}
+
+/// The event that an entry tells, or none where its pair isn't a class.
+fn event_of(core: &Core, entry: &Entry) -> Option<Event>
+    ensures { MatchOption result
+        (NamesNoClass core.now.listed.criteria entry.now)
+        (λ event. Tells core.now.listed entry.now event) }
+{
+    match entry {
+        Entry::Eliminate(elimination) => {
+            let Elimination {
+                worker,
+                pair,
+                verdict,
+                combination,
+            } = elimination;
+            let place = core.place(pair)?;
+            Some(Event::Eliminate {
+                worker: *worker,
+                place,
+                verdict: *verdict,
+                combination: *combination,
+            })
+        }
+        Entry::Issue {
+            desk,
+            pair,
+            plus,
+            minus,
+        } => {
+            let place = core.place(pair)?;
+            Some(Event::Issue {
+                desk: *desk,
+                place,
+                plus: *plus,
+                minus: *minus,
+            })
+        }
+        Entry::Commit {
+            desk,
+            question,
+            side,
+            plus,
+            minus,
+            point,
+        } => Some(Event::Commit {
+            desk: *desk,
+            question: *question,
+            side: *side,
+            plus: *plus,
+            minus: *minus,
+            point: *point,
+        }),
+        Entry::Close { desk, question } => Some(Event::Close {
+            desk: *desk,
+            question: *question,
+        }),
+        Entry::Withdraw { desk, answer } => Some(Event::Withdraw {
+            desk: *desk,
+            answer: *answer,
+        }),
+    }
+}
