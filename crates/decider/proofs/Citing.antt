@@ -1,6 +1,6 @@
 -- The cites of the answers whose rows are weighted, one answer after another.
-use Rattle.std.proofs.Common.{◌≡◌, ◌≢◌, ℕ, zero, suc, ◌+◌, ◌-◌, ◌*◌, ◌^◌, ◌<◌, ◌≤◌, Bool, true, false, cond, List, [], ◌∷◌, ◌++◌, length, map, get_or, take, Some, Option, ◌⊎◌, inl, inr, ℤ, pos, negsuc, neg_ℤ, ◌+ℤ◌, ◌*ℤ◌, ◌<ℤ◌, ◌≤ℤ◌, unsigned_abs, refl, sym, ap, subst, ◌∙◌, arith}
-use Rattle.std.specs.Prelude.{All, ◌==◌, nat_lt, slice_index, slice_get, sum_by}
+use Rattle.std.proofs.Common.{◌≡◌, ◌≢◌, ℕ, zero, suc, ◌+◌, ◌-◌, ◌<◌, ◌≤◌, Bool, true, false, cond, List, [], ◌∷◌, ◌++◌, length, map, get_or, take, Some, Option, ◌⊎◌, inl, inr, ℤ, pos, negsuc, neg_ℤ, ◌+ℤ◌, ◌*ℤ◌, refl, sym, ap, subst, ◌∙◌, arith}
+use Rattle.std.specs.Prelude.{All, ◌==◌, nat_lt, slice_index, slice_get}
 use Rattle.std.specs.Option.{option_map_or}
 use Rattle.std.specs.List.Sorted.{IsStrictlyIncreasing}
 use Rattle.std.proofs.lemmas.Int.{ints}
@@ -17,11 +17,11 @@ use Rattle.criteria_model.specs.declared.pairs.Pair.{Pair}
 use Rattle.farkas_check.specs.declared.cites.Cite.{Cite}
 use Rattle.farkas_check.specs.Cited.{IsCite, AreCites, no_cite}
 use Rattle.farkas_check.specs.Sums.{cited_side}
-use Rattle.farkas_check.specs.Proof.{MayWeigh, IsThere}
+use Rattle.farkas_check.specs.Proof.{MayWeigh}
 use Rattle.simplex.specs.declared.row_weights.RowWeight.{RowWeight}
 use Rattle.simplex.specs.Weights.{is_weight, AreRowWeights, no_weight, weighted}
 use Rattle.decider.specs.Standing.{rows_of}
-use Rattle.decider.specs.Combining.{rows_for, rows_in, first_row, row_at, AreFrom, TakesRanking, with_cite, IsOpposed, cited_sum, CitesRows}
+use Rattle.decider.specs.Combining.{rows_for, rows_in, first_row, AreFrom, TakesRanking, with_cite, IsOpposed, cited_sum, CitesRows}
 
 pub rows_for-length : (levels : List ℕ) (pair : Pair) (side : Side) → length (rows_of levels pair side) ≡ rows_for side
 rows_for-length levels pair Left = refl

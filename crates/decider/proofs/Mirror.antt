@@ -1,5 +1,5 @@
 -- The set of vectors that meet answers is relatively open: behind a vector that ranks a pair equal, seen from one that ranks it right, stands one that ranks it left.
-use Rattle.std.proofs.Common.{◌≡◌, ℕ, zero, suc, ◌+◌, ◌-◌, ◌*◌, ◌<◌, ◌≤◌, List, [], ◌∷◌, ◌++◌, length, max, ℤ, pos, negsuc, neg_ℤ, ◌+ℤ◌, ◌-ℤ◌, ◌*ℤ◌, ◌<ℤ◌, ◌≤ℤ◌, unsigned_abs, refl, sym, ap, subst, ◌∙◌, arith, mul-le-mul_left}
+use Rattle.std.proofs.Common.{◌≡◌, ℕ, ◌+◌, ◌*◌, ◌<◌, ◌≤◌, List, [], ◌∷◌, length, ℤ, pos, negsuc, ◌-ℤ◌, ◌*ℤ◌, ◌<ℤ◌, ◌≤ℤ◌, unsigned_abs, sym, ap, subst, ◌∙◌, arith, mul-le-mul_left}
 use Rattle.std.specs.Prelude.{All}
 use Rattle.std.proofs.lemmas.Int.{ints}
 use Rattle.std.proofs.lemmas.List.Elements.{All-nil, All-cons, All-head, All-tail}
@@ -9,7 +9,7 @@ use Rattle.criteria_model.specs.declared.pairs.Answer.{Answer}
 use Rattle.criteria_model.specs.declared.pairs.Side.{Side}
 use Rattle.criteria_model.specs.declared.pairs.Side.TheVariants.{Left, Right, Equal}
 use Rattle.criteria_model.specs.Rows.{dot, minus, times}
-use Rattle.criteria_model.specs.Worth.{has, worth, increments, IsValueVector}
+use Rattle.criteria_model.specs.Worth.{has, worth}
 use Rattle.criteria_model.specs.Answers.{Ranks, Meets, MeetsAll, gain}
 use Rattle.criteria_model.proofs.GainLemmas.{Favours, ranks_favours, favours_ranks}
 use Rattle.criteria_model.proofs.RowLemmas.{dot-minus, dot-times, length-minus, length-times}

@@ -1,5 +1,5 @@
 -- What a clash with a tried ranking says: its combination proves how the point ranks the pair.
-use Rattle.std.proofs.Common.{◌≡◌, ◌≢◌, ℕ, zero, suc, ◌+◌, ◌-◌, ◌^◌, ◌<◌, ◌≤◌, Bool, true, false, cond, List, [], ◌∷◌, ◌++◌, length, map, get_or, take, ◌⊎◌, inl, inr, ℤ, pos, negsuc, neg_ℤ, ◌+ℤ◌, ◌-ℤ◌, ◌*ℤ◌, ◌<ℤ◌, ◌≤ℤ◌, unsigned_abs, refl, sym, ap, subst, ◌∙◌, arith}
+use Rattle.std.proofs.Common.{◌≡◌, ◌≢◌, ℕ, zero, suc, ◌+◌, ◌-◌, ◌<◌, ◌≤◌, Bool, true, false, cond, List, [], ◌∷◌, ◌++◌, length, map, get_or, take, ◌⊎◌, inl, inr, ℤ, pos, negsuc, neg_ℤ, ◌+ℤ◌, ◌*ℤ◌, ◌<ℤ◌, ◌≤ℤ◌, refl, sym, ap, subst, ◌∙◌, arith}
 use Rattle.std.specs.Prelude.{All, Any, count_by, nat_lt, ◌==◌}
 use Rattle.std.proofs.lemmas.Int.{ints}
 use Rattle.std.proofs.lemmas.Bool.{cases_Bool, eqb-true, eqb-false, ltb-true, ltb-false, true≢false}
@@ -20,19 +20,18 @@ use Rattle.criteria_model.proofs.RowLemmas.{length-times}
 use Rattle.farkas_check.specs.declared.cites.Cite.{Cite}
 use Rattle.farkas_check.specs.declared.combination.Combination.{Combination}
 use Rattle.farkas_check.specs.Cited.{no_cite}
-use Rattle.farkas_check.specs.Sums.{cited_side, cited_gain, total}
+use Rattle.farkas_check.specs.Sums.{cited_side, total}
 use Rattle.farkas_check.specs.Proof.{MayWeigh, IsStrict, IsThere, HasStrict, HasScale, HasOwnWeights, HasCited, HasWeights, HasSums, Suits, Proves}
 use Rattle.farkas_check.proofs.Ranking.{proved_is_ranked_lem}
-use Rattle.fraction_free.specs.declared.loaded.LoadedRow.{LoadedRow}
 use Rattle.simplex.specs.declared.row_weights.RowWeight.{RowWeight}
 use Rattle.simplex.specs.declared.found.Clash.{Clash}
-use Rattle.simplex.specs.Weights.{is_weight, IsRowWeight, AreRowWeights, no_weight, weighted}
+use Rattle.simplex.specs.Weights.{is_weight, no_weight, weighted}
 use Rattle.simplex.specs.Results.{coefficient, IsClash}
 use Rattle.simplex.proofs.Quotients.{positive_factor}
 use Rattle.simplex.proofs.Slacks.{weighted-append}
 use Rattle.decider.specs.Standing.{rows_of, rows_of_answers}
 use Rattle.decider.specs.Decisions.{weights_of}
-use Rattle.decider.specs.Combining.{rows_for, rows_in, first_row, row_at, cited_sum, CitesRows, times_cites, EndsWithTried, Combines}
+use Rattle.decider.specs.Combining.{rows_for, rows_in, first_row, row_at, cited_sum, times_cites, EndsWithTried, Combines}
 use Rattle.decider.specs.Trying.{against}
 use Rattle.decider.proofs.AnswerRows.{all_meets_rows}
 use Rattle.decider.proofs.Citing.{rows_for-length}

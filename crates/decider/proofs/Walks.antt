@@ -1,19 +1,18 @@
 -- A walk through weighted rows, in order: what the next ones weigh.
-use Rattle.std.proofs.Common.{◌≡◌, ◌≢◌, ℕ, zero, suc, ◌+◌, ◌-◌, ◌*◌, ◌^◌, ◌<◌, ◌≤◌, Bool, true, false, List, [], ◌∷◌, ◌++◌, length, map, get_or, take, ◌⊎◌, inl, inr, ℤ, pos, negsuc, neg_ℤ, ◌+ℤ◌, ◌-ℤ◌, ◌*ℤ◌, ◌<ℤ◌, ◌≤ℤ◌, unsigned_abs, to_z, of_z, refl, sym, ap, subst, ◌∙◌, arith}
+use Rattle.std.proofs.Common.{◌≡◌, ◌≢◌, ℕ, zero, suc, ◌+◌, ◌-◌, ◌^◌, ◌<◌, ◌≤◌, true, false, List, length, map, get_or, take, ◌⊎◌, inl, inr, ℤ, pos, negsuc, neg_ℤ, ◌+ℤ◌, ◌-ℤ◌, ◌*ℤ◌, ◌<ℤ◌, ◌≤ℤ◌, unsigned_abs, to_z, of_z, refl, sym, ap, subst, ◌∙◌, arith}
 use mir.Syntax.{w128}
-use Rattle.std.specs.Prelude.{All, ◌==◌, slice_index}
+use Rattle.std.specs.Prelude.{◌==◌, slice_index}
 use Rattle.std.proofs.lemmas.Int.{ints}
-use Rattle.std.proofs.lemmas.Bool.{cases_Bool, eqb-true, eqb-false, true≢false, false≢true}
+use Rattle.std.proofs.lemmas.Bool.{cases_Bool, eqb-true, eqb-false, true≢false}
 use Rattle.std.proofs.lemmas.List.{get_or-map, length-map, take_more}
 use Rattle.minors.proofs.Ring.{sums, mul-neg, sub-mul}
 use Rattle.criteria_model.specs.declared.pairs.Side.{Side}
-use Rattle.criteria_model.specs.declared.pairs.Side.TheVariants.{Left, Right, Equal}
-use Rattle.farkas_check.specs.Proof.{MayWeigh}
+use Rattle.criteria_model.specs.declared.pairs.Side.TheVariants.{Equal}
 use Rattle.simplex.specs.declared.row_weights.RowWeight.{RowWeight}
 use Rattle.simplex.specs.Weights.{is_weight, IsRowWeight, AreRowWeights, no_weight, weighted}
 use Rattle.simplex.proofs.Sizes.{kept}
 use Rattle.simplex.proofs.Slacks.{weighted-append}
-use Rattle.decider.specs.Combining.{rows_for, row_at, AreFrom, TakesRow, TakesRanking}
+use Rattle.decider.specs.Combining.{row_at, AreFrom, TakesRow, TakesRanking}
 
 row_step : (rows : List RowWeight) → AreRowWeights rows → (k : ℕ) → k + 1 < length rows → row_at rows k < row_at rows (k + 1)
 row_step rows are k lt =

@@ -1,5 +1,5 @@
 -- Dictionaries whose rows are those of answers.
-use Rattle.std.specs.Prelude.{ℕ, ◌+◌, ◌-◌, ◌*◌, ◌^◌, min, ◌≡◌, ◌<◌, ◌≤◌, List, [], ◌∷◌, ◌++◌, length, take, ℤ, pos}
+use Rattle.std.specs.Prelude.{ℕ, ◌+◌, ◌-◌, ◌*◌, ◌^◌, min, ◌≡◌, ◌<◌, ◌≤◌, List, [], ◌∷◌, length, take, pos}
 use Rattle.std.specs.List.{flat_map}
 use Rattle.criteria_model.specs.declared.pairs.Pair.{Pair}
 use Rattle.criteria_model.specs.declared.pairs.Answer.{Answer}

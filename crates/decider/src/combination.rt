@@ -1,11 +1,10 @@
 //! The combination that a clash gives.
-ghost use Rattle.std.specs.Prelude.{ℕ, ◌≡◌, ◌+◌, ◌-◌, ◌^◌, ◌<◌, ◌≤◌, ◌∷◌, ◌++◌, length, map, take, All, pos, ◌≤ℤ◌, unsigned_abs};
+ghost use Rattle.std.specs.Prelude.{◌≡◌, ◌^◌, ◌<◌, ◌≤◌, ◌∷◌, ◌++◌, length, map, All, pos, ◌≤ℤ◌, unsigned_abs};
 ghost use Rattle.std.specs.Int.{◌∣◌};
-ghost use Rattle.farkas_check.specs.Cited.{AreCites};
 ghost use Rattle.simplex.specs.Rows.{HasNoDivisor};
 ghost use Rattle.simplex.specs.Weights.{AreRowWeights};
 ghost use Rattle.decider.specs.Decisions.{numbers_of};
-ghost use Rattle.decider.specs.Combining.{rows_in, AreFrom, TakesRow, TakesRanking, with_cite, CitesRows, IsGreatestDivisor, times_cites, EndsWithTried, Combines};
+ghost use Rattle.decider.specs.Combining.{rows_in, AreFrom, TakesRow, TakesRanking, CitesRows, IsGreatestDivisor, times_cites, EndsWithTried, Combines};
 
 use crate::cite_list::CiteList;
 use crate::rows::row_count;

@@ -6,7 +6,7 @@ ghost use Rattle.criteria_model.specs.Pairs.{IsFit};
 ghost use Rattle.criteria_model.specs.Answers.{Ranks, MeetsAll};
 ghost use Rattle.fraction_free.specs.Tableau.{IsDictionary};
 ghost use Rattle.simplex.specs.Rows.{MeetsRows, HasNoDivisor};
-ghost use Rattle.decider.specs.Standing.{rows_of, StandsFor, HasRoom, BringsUp};
+ghost use Rattle.decider.specs.Standing.{rows_of, HasRoom, BringsUp};
 ghost use Rattle.decider.specs.Decisions.{IsDecision, IsExact, HasFewWeights};
 ghost use Rattle.decider.specs.Trying.{against, OpensRows, IsTried};
 
@@ -19,11 +19,11 @@ use criteria_model::{Model, Pair, Side, Vector};
 use fraction_free::Dictionary;
 use simplex::{Found, reduced};
 
-/// What the answers say of the pair: two vectors that open it, or the ranking with a combination that
-/// proves it. `point` meets the answers. Tries a ranking that the point does not give, and only where
-/// the point ranks the pair equal and the right side can be worth more a second one.
+/// What the answers say of the pair: two vectors that open it, or its ranking with a combination that
+/// proves it. `point` meets the answers.
 ///
-/// Takes no memory. The dictionary stands for the answers afterwards.
+/// One solve decides, of a ranking that the point does not give. A second one finds a vector for left
+/// where the point ranks the pair equal and right is possible.
 pub fn decide(
     model: &Model,
     answers: &Answers,

@@ -1,5 +1,5 @@
-//! Decisions on pairs: what a decision is, the dictionary that stands for answers, and rankings tried
-//! beside them.
+//! Decisions on pairs: whether answers rank a pair, with a certificate either way, and a vector for one
+//! more answer. A dictionary that stands for the answers is kept from call to call.
 #![tactic(auto)]
 
 mod cite_list;

@@ -1,6 +1,6 @@
 //! Decisions known by hand or by a search over small vectors, and decisions on many answers, each
 //! with its certificate tested.
-ghost use Rattle.std.specs.Prelude.{◌+◌, ◌<◌, ◌≤◌, All, IfOk};
+ghost use Rattle.std.specs.Prelude.{◌≤◌, All, IfOk};
 ghost use Rattle.criteria_model.specs.Worth.{IsValueVector};
 ghost use Rattle.criteria_model.specs.Pairs.{IsFit};
 ghost use Rattle.criteria_model.specs.Answers.{MeetsAll};

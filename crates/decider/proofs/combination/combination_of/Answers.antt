@@ -1,4 +1,4 @@
-use Rattle.std.proofs.Common.{◌≡◌, ℕ, ◌-◌, ◌<◌, ◌≤◌, ◌^◌, ◌∷◌, ◌++◌, ℤ, pos, ◌≤ℤ◌, ◌*ℤ◌, List, length, map, get_or, take, unsigned_abs, to_z, of_z, refl, sym, ap, subst, ◌∙◌, arith}
+use Rattle.std.proofs.Common.{◌≡◌, ◌-◌, ◌<◌, ◌∷◌, ◌++◌, ℤ, ◌*ℤ◌, List, length, map, get_or, unsigned_abs, to_z, of_z, refl, sym, ap, subst, ◌∙◌, arith}
 use mir.Syntax.{w128}
 use lib.Signed.{quot_z}
 use Rattle.std.specs.Prelude.{All}
@@ -6,9 +6,8 @@ use Rattle.std.specs.Int.{◌∣◌}
 use Rattle.std.proofs.lemmas.List.Elements.{All-head}
 use Rattle.criteria_model.specs.declared.pairs.Answer.{Answer}
 use Rattle.criteria_model.specs.Rows.{times}
-use Rattle.farkas_check.specs.declared.cites.Cite.{Cite}
 use Rattle.simplex.specs.declared.row_weights.RowWeight.{RowWeight}
-use Rattle.simplex.specs.Weights.{IsRowWeight, AreRowWeights, no_weight}
+use Rattle.simplex.specs.Weights.{IsRowWeight, no_weight}
 use Rattle.simplex.proofs.Sizes.{kept}
 use Rattle.simplex.proofs.Quotients.{quotient_is}
 use Rattle.decider.specs.Combining.{IsGreatestDivisor, times_cites, EndsWithTried}

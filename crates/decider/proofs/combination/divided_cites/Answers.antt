@@ -1,9 +1,9 @@
-use Rattle.std.proofs.Common.{◌≡◌, ℕ, ◌+◌, ◌<◌, ◌^◌, ℤ, pos, ◌≤ℤ◌, ◌*ℤ◌, List, length, get_or, unsigned_abs, to_z, of_z, refl, sym, ap, subst, ◌∙◌, arith}
+use Rattle.std.proofs.Common.{◌≡◌, ◌+◌, ℤ, pos, ◌≤ℤ◌, List, get_or, unsigned_abs, to_z, of_z, refl, sym, ap, subst, ◌∙◌}
 use mir.Syntax.{w128}
 use Rattle.std.specs.Prelude.{All}
 use Rattle.std.specs.Int.{◌∣◌}
 use Rattle.farkas_check.specs.declared.cites.Cite.{Cite}
-use Rattle.farkas_check.specs.Cited.{IsCite, AreCites, no_cite}
+use Rattle.farkas_check.specs.Cited.{IsCite, no_cite}
 use Rattle.simplex.proofs.Sizes.{kept}
 use Rattle.simplex.proofs.Quotients.{quotient_is}
 use Rattle.decider.specs.Combining.{times_cites}

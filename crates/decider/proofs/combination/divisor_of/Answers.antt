@@ -1,4 +1,4 @@
-use Rattle.std.proofs.Common.{◌≡◌, ◌<◌, ◌^◌, ◌∷◌, ◌++◌, ℕ, ℤ, pos, ◌≤ℤ◌, List, map, get_or, unsigned_abs, to_z, of_z, refl, sym, ap, subst, ◌∙◌, arith}
+use Rattle.std.proofs.Common.{◌≡◌, ◌∷◌, ◌++◌, ℤ, pos, ◌≤ℤ◌, List, map, get_or, unsigned_abs, to_z, of_z, sym, subst, arith}
 use mir.Syntax.{w128}
 use Rattle.std.specs.Prelude.{All}
 use Rattle.std.specs.Int.{◌∣◌}

@@ -1,7 +1,6 @@
-use Rattle.std.proofs.Common.{◌≡◌, ◌<◌, ◌≤◌, ◌^◌, ℤ, length, get_or, unsigned_abs, to_z, of_z, refl, sym, ap, ◌∙◌, arith}
+use Rattle.std.proofs.Common.{get_or, refl, arith}
 use Rattle.simplex.specs.Weights.{no_weight}
 use Rattle.simplex.proofs.Sizes.{kept}
-use Rattle.decider.specs.Combining.{row_at}
 use Rattle.decider.proofs.Walks.{row_taken, row_none}
 use Rattle.decider.proofs.combination.row_weight.Goals as goal
 use Rattle.decider.proofs.combination.row_weight.Goals.{else-taken-rows-via-then-taken-rows+else-rows-taken, else-taken-rows-via-else-taken-rows}

@@ -1,4 +1,4 @@
-use Rattle.std.proofs.Common.{◌≡◌, ◌+◌, ◌*◌, ◌≤◌, length, ap, sym, ◌∙◌, arith}
+use Rattle.std.proofs.Common.{length, ap, arith}
 use Rattle.decider.specs.Standing.{StandsFor}
 use Rattle.decider.proofs.Standings.{rows_len-whole}
 use Rattle.decider.proofs.Deciding.{IsRefuted, standing_point, standing_still, standing_ends, rows_few, standing_mirrored, implied_decision, implied_exact, implied_few, undecided_decision, undecided_exact}

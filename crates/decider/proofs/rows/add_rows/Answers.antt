@@ -1,4 +1,4 @@
-use Rattle.std.proofs.Common.{◌≡◌, refl, sym, ap, ◌∙◌, inr, length, arith}
+use Rattle.std.proofs.Common.{refl, sym, ap, ◌∙◌, inr, length, arith}
 use Rattle.criteria_model.specs.declared.pairs.Side.TheVariants.{Left, Right}
 use Rattle.criteria_model.proofs.GainLemmas.{length-gain}
 use Rattle.fraction_free.specs.Tableau.{Tableau}

@@ -1,4 +1,4 @@
-use Rattle.std.proofs.Common.{◌≡◌, ◌+◌, ◌-◌, List, ℤ, refl, sym, ap, subst, ◌∙◌, arith, rules, true}
+use Rattle.std.proofs.Common.{◌≡◌, ◌+◌, ◌-◌, List, ℤ, sym, ap, ◌∙◌, arith, rules}
 use lib.Pointwise.{pointwise}
 use Rattle.std.specs.Ordering.{int_eq}
 use Rattle.decider.proofs.RowTests.{same_list, list_same, least_tested, other_row}

@@ -1,5 +1,5 @@
 -- The first of 24 ones are ones.
-use Rattle.std.proofs.Common.{◌≡◌, ℕ, pos, replicate, take, ap, ◌∙◌}
+use Rattle.std.proofs.Common.{ℕ, pos, replicate, take, ap, ◌∙◌}
 use Rattle.std.proofs.lemmas.List.{take-replicate}
 use Rattle.criteria_model.specs.Worth.{increments}
 use Rattle.decider.proofs.tools.Tools.reserve.Goals as goal
