@@ -111,10 +111,6 @@ impl Line {
         requires exact { HasQuotient (entry *ℤ number_at self.old place -ℤ factor *ℤ other) scale.now }
         ensures { IsExchangedAt scale.now entry factor other self.old self.new place }
     {
-        // the number stays: nothing is taken off, and the old scale is the new one
-        if other == 0 && entry == scale.number() {
-            return;
-        }
         let quotient = scale.step(entry, self.get(place), factor, other);
         self.set(place, quotient);
     }

@@ -1,6 +1,4 @@
-use Rattle.std.proofs.Common.{◌≡◌, ◌∙◌, ◌<◌, ◌^◌, ℕ, ℤ, pos, ◌*ℤ◌, ◌-ℤ◌, unsigned_abs, List, length, set, FitsSigned, to_z, of_z, sym, refl, ap, arith}
-use Rattle.std.proofs.Math.IntN.{*ℤ_comm, zero-*ℤ}
-use Rattle.std.proofs.lemmas.Int.{ints, to_z-of_z}
+use Rattle.std.proofs.Common.{◌≡◌, ◌∙◌, ◌<◌, ◌^◌, ℕ, ℤ, pos, ◌*ℤ◌, ◌-ℤ◌, unsigned_abs, List, length, set, to_z, of_z, ap, arith}
 use Rattle.std.proofs.lemmas.List.{length-set, get_or-set_same, get_or-set_other}
 use Rattle.std.specs.Int.{w128}
 use Rattle.wide_step.proofs.Integers.{read_back}
@@ -32,22 +30,3 @@ returns c =
     (small_back q c.step-quotient.ensures.size)
     (quotient_back q c.args.scale.now c.args.entry c.get.result (number_at old c.args.place) c.args.factor c.args.other c.get.ensures
     c.requires.entry_size c.requires.number_size c.requires.factor_size c.requires.other_size c.step-quotient.ensures.quotient)
-
--- with nothing to take off, and the entry as the scale, the number stays
-alone : (s entry factor other x : ℤ) → entry ≡ s → other ≡ pos 0 → x *ℤ s ≡ entry *ℤ x -ℤ factor *ℤ other
-alone s entry factor other x e z = *ℤ_comm x s ∙ nothing (s *ℤ x) ∙ ap (λ (n : ℤ). s *ℤ x -ℤ n) (sym (*ℤ_comm factor (pos 0) ∙ zero-*ℤ factor)) ∙ ap (λ (n : ℤ). s *ℤ x -ℤ factor *ℤ n) (sym z) ∙ ap (λ (n : ℤ). n *ℤ x -ℤ factor *ℤ other) (sym e)
-  where
-    nothing : (y : ℤ) → y ≡ y -ℤ pos 0
-    nothing y = omega (arith, ints)
-
-pub returns-then-entry-number : goal.returns-then-entry-number
-returns-then-entry-number c =
-    let fits : FitsSigned w128 c.number.result = record { sfits = c.number.type_inv } in
-    let number = to_z-of_z w128 c.number.result fits ∙ c.number.ensures in
-    record {
-      len = refl;
-      divided = alone c.args.scale.now c.args.entry c.args.factor c.args.other (number_at c.args.self.now c.args.place)
-          (sym (small_back c.args.entry (let size = c.requires.entry_size in omega arith)) ∙ ap (to_z w128) c.if-entry-number.true ∙ number)
-          (sym (small_back c.args.other (let size = c.requires.other_size in omega arith)) ∙ ap (to_z w128) c.if-other-eq0.true);
-      others = λ other apart. refl;
-    }
