@@ -39,7 +39,7 @@ def random_pair(random, levels):
 
 
 def ranked(pair, side):
-    return f"ranked({list(pair[0])}, {list(pair[1])}, {NAMES[side]})"
+    return f"Told {{ left: {list(pair[0])}, right: {list(pair[1])}, side: {NAMES[side]} }}"
 
 
 def main():
@@ -67,7 +67,10 @@ def main():
         want = "None" if kind is None else f"Some({NAMES[kind]})"
         for levels, point, first, second, pair in kept:
             padded = list(point) + [0] * (5 - len(point))
-            print(f"expected({list(levels)}, [{first}, {second}], {padded}, {list(pair[0])}, {list(pair[1])}, {want}),")
+            print(
+                f"Case {{ levels: {list(levels)}, told: [{first}, {second}], point: {padded},"
+                f" left: {list(pair[0])}, right: {list(pair[1])}, want: {want} }},"
+            )
 
 
 if __name__ == "__main__":

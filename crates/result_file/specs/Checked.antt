@@ -68,11 +68,6 @@ pub record NextLineFails (stage : Stage) (rest : List ℕ) (part : Part) : Type 
   pub fits : length line ≤ longest_line
   pub fails : Fails stage line part
 
--- a model has come, and not the end
-abbrev pub HasBegun : Stage → Type 0
-HasBegun (begun content) = Unit {0}
-HasBegun _ = ⊥
-
 -- the file has ended
 abbrev pub HasEnded : Stage → Type 0
 HasEnded (ended content) = Unit {0}

@@ -121,24 +121,6 @@ struct Case {
     want: Option<Side>,
 }
 
-fn expected(
-    levels: [u32; 3],
-    told: [Told; 2],
-    point: [i128; 5],
-    left: [u8; 3],
-    right: [u8; 3],
-    want: Option<Side>,
-) -> Case {
-    Case {
-        levels,
-        told,
-        point,
-        left,
-        right,
-        want,
-    }
-}
-
 fn decided(rt: &impl Abort, alloc: Global, case: &Case) -> Result<Option<Side>, Fail> {
     let model = Model::new(&case.levels, 2)?;
     let increments = usize::from(model.increments());
@@ -153,231 +135,392 @@ fn decided(rt: &impl Abort, alloc: Global, case: &Case) -> Result<Option<Side>, 
 }
 
 /// The table of bench/decisions.py: two answers on small models.
+const SEARCHED: [Case; 20] = [
+    Case {
+        levels: [2, 2, 2],
+        told: [
+            Told {
+                left: [1, 0, 2],
+                right: [2, 0, 1],
+                side: Side::Right,
+            },
+            Told {
+                left: [0, 2, 1],
+                right: [0, 1, 2],
+                side: Side::Equal,
+            },
+        ],
+        point: [4, 2, 2, 0, 0],
+        left: [2, 1, 0],
+        right: [1, 2, 0],
+        want: Some(Side::Left),
+    },
+    Case {
+        levels: [2, 3, 3],
+        told: [
+            Told {
+                left: [2, 2, 0],
+                right: [1, 3, 0],
+                side: Side::Equal,
+            },
+            Told {
+                left: [0, 3, 2],
+                right: [0, 2, 3],
+                side: Side::Right,
+            },
+        ],
+        point: [1, 1, 1, 3, 4],
+        left: [1, 3, 0],
+        right: [2, 1, 0],
+        want: Some(Side::Left),
+    },
+    Case {
+        levels: [3, 3, 2],
+        told: [
+            Told {
+                left: [3, 1, 1],
+                right: [2, 3, 2],
+                side: Side::Equal,
+            },
+            Told {
+                left: [1, 3, 2],
+                right: [2, 2, 1],
+                side: Side::Left,
+            },
+        ],
+        point: [2, 4, 1, 1, 2],
+        left: [3, 2, 2],
+        right: [1, 3, 1],
+        want: Some(Side::Left),
+    },
+    Case {
+        levels: [2, 2, 2],
+        told: [
+            Told {
+                left: [0, 2, 1],
+                right: [0, 1, 2],
+                side: Side::Right,
+            },
+            Told {
+                left: [2, 2, 1],
+                right: [1, 1, 2],
+                side: Side::Right,
+            },
+        ],
+        point: [1, 1, 4, 0, 0],
+        left: [1, 1, 2],
+        right: [2, 2, 1],
+        want: Some(Side::Left),
+    },
+    Case {
+        levels: [2, 2, 2],
+        told: [
+            Told {
+                left: [2, 1, 0],
+                right: [1, 2, 0],
+                side: Side::Equal,
+            },
+            Told {
+                left: [2, 0, 1],
+                right: [1, 0, 2],
+                side: Side::Left,
+            },
+        ],
+        point: [3, 3, 1, 0, 0],
+        left: [2, 1, 2],
+        right: [1, 2, 1],
+        want: Some(Side::Left),
+    },
+    Case {
+        levels: [2, 3, 3],
+        told: [
+            Told {
+                left: [1, 0, 3],
+                right: [2, 0, 1],
+                side: Side::Left,
+            },
+            Told {
+                left: [0, 1, 2],
+                right: [0, 3, 1],
+                side: Side::Right,
+            },
+        ],
+        point: [4, 3, 3, 3, 3],
+        left: [2, 1, 2],
+        right: [1, 3, 3],
+        want: Some(Side::Right),
+    },
+    Case {
+        levels: [2, 2, 2],
+        told: [
+            Told {
+                left: [0, 1, 2],
+                right: [0, 2, 1],
+                side: Side::Right,
+            },
+            Told {
+                left: [2, 1, 2],
+                right: [1, 2, 1],
+                side: Side::Left,
+            },
+        ],
+        point: [3, 2, 1, 0, 0],
+        left: [1, 2, 1],
+        right: [2, 1, 2],
+        want: Some(Side::Right),
+    },
+    Case {
+        levels: [2, 3, 3],
+        told: [
+            Told {
+                left: [1, 0, 3],
+                right: [2, 0, 2],
+                side: Side::Left,
+            },
+            Told {
+                left: [2, 1, 3],
+                right: [1, 2, 1],
+                side: Side::Left,
+            },
+        ],
+        point: [1, 2, 4, 1, 4],
+        left: [2, 1, 2],
+        right: [1, 2, 3],
+        want: Some(Side::Right),
+    },
+    Case {
+        levels: [3, 3, 2],
+        told: [
+            Told {
+                left: [2, 3, 1],
+                right: [1, 2, 2],
+                side: Side::Equal,
+            },
+            Told {
+                left: [2, 0, 1],
+                right: [1, 0, 2],
+                side: Side::Right,
+            },
+        ],
+        point: [2, 4, 3, 2, 4],
+        left: [1, 1, 2],
+        right: [2, 3, 1],
+        want: Some(Side::Right),
+    },
+    Case {
+        levels: [2, 2, 2],
+        told: [
+            Told {
+                left: [2, 2, 1],
+                right: [1, 1, 2],
+                side: Side::Equal,
+            },
+            Told {
+                left: [1, 2, 0],
+                right: [2, 1, 0],
+                side: Side::Equal,
+            },
+        ],
+        point: [1, 1, 2, 0, 0],
+        left: [2, 0, 1],
+        right: [1, 0, 2],
+        want: Some(Side::Right),
+    },
+    Case {
+        levels: [2, 2, 2],
+        told: [
+            Told {
+                left: [2, 1, 0],
+                right: [1, 2, 0],
+                side: Side::Equal,
+            },
+            Told {
+                left: [2, 1, 1],
+                right: [1, 2, 2],
+                side: Side::Right,
+            },
+        ],
+        point: [1, 1, 1, 0, 0],
+        left: [1, 2, 0],
+        right: [2, 1, 0],
+        want: Some(Side::Equal),
+    },
+    Case {
+        levels: [2, 3, 3],
+        told: [
+            Told {
+                left: [0, 3, 1],
+                right: [0, 2, 2],
+                side: Side::Left,
+            },
+            Told {
+                left: [0, 2, 2],
+                right: [0, 1, 3],
+                side: Side::Equal,
+            },
+        ],
+        point: [4, 3, 2, 1, 3],
+        left: [0, 1, 3],
+        right: [0, 2, 2],
+        want: Some(Side::Equal),
+    },
+    Case {
+        levels: [2, 2, 2],
+        told: [
+            Told {
+                left: [0, 2, 1],
+                right: [0, 1, 2],
+                side: Side::Equal,
+            },
+            Told {
+                left: [1, 2, 0],
+                right: [2, 1, 0],
+                side: Side::Equal,
+            },
+        ],
+        point: [4, 4, 4, 0, 0],
+        left: [2, 1, 0],
+        right: [1, 2, 0],
+        want: Some(Side::Equal),
+    },
+    Case {
+        levels: [2, 3, 3],
+        told: [
+            Told {
+                left: [1, 3, 0],
+                right: [2, 1, 0],
+                side: Side::Left,
+            },
+            Told {
+                left: [1, 0, 3],
+                right: [2, 0, 2],
+                side: Side::Equal,
+            },
+        ],
+        point: [2, 3, 4, 2, 2],
+        left: [2, 0, 2],
+        right: [1, 0, 3],
+        want: Some(Side::Equal),
+    },
+    Case {
+        levels: [2, 3, 3],
+        told: [
+            Told {
+                left: [1, 0, 2],
+                right: [2, 0, 1],
+                side: Side::Equal,
+            },
+            Told {
+                left: [1, 1, 2],
+                right: [2, 3, 1],
+                side: Side::Right,
+            },
+        ],
+        point: [4, 4, 3, 4, 3],
+        left: [2, 0, 1],
+        right: [1, 0, 2],
+        want: Some(Side::Equal),
+    },
+    Case {
+        levels: [2, 3, 3],
+        told: [
+            Told {
+                left: [0, 1, 2],
+                right: [0, 2, 1],
+                side: Side::Left,
+            },
+            Told {
+                left: [1, 2, 1],
+                right: [2, 1, 2],
+                side: Side::Right,
+            },
+        ],
+        point: [3, 1, 4, 2, 1],
+        left: [1, 2, 3],
+        right: [2, 3, 1],
+        want: None,
+    },
+    Case {
+        levels: [2, 3, 3],
+        told: [
+            Told {
+                left: [1, 0, 3],
+                right: [2, 0, 1],
+                side: Side::Left,
+            },
+            Told {
+                left: [0, 1, 3],
+                right: [0, 3, 2],
+                side: Side::Right,
+            },
+        ],
+        point: [1, 3, 3, 3, 4],
+        left: [2, 2, 1],
+        right: [1, 1, 2],
+        want: None,
+    },
+    Case {
+        levels: [2, 3, 3],
+        told: [
+            Told {
+                left: [2, 1, 3],
+                right: [1, 3, 2],
+                side: Side::Right,
+            },
+            Told {
+                left: [1, 2, 1],
+                right: [2, 1, 3],
+                side: Side::Right,
+            },
+        ],
+        point: [2, 3, 3, 1, 3],
+        left: [1, 2, 3],
+        right: [2, 3, 2],
+        want: None,
+    },
+    Case {
+        levels: [3, 3, 2],
+        told: [
+            Told {
+                left: [1, 3, 0],
+                right: [2, 1, 0],
+                side: Side::Left,
+            },
+            Told {
+                left: [2, 3, 2],
+                right: [3, 2, 1],
+                side: Side::Left,
+            },
+        ],
+        point: [3, 3, 4, 4, 2],
+        left: [3, 2, 0],
+        right: [1, 3, 0],
+        want: None,
+    },
+    Case {
+        levels: [3, 3, 2],
+        told: [
+            Told {
+                left: [2, 2, 1],
+                right: [1, 3, 2],
+                side: Side::Right,
+            },
+            Told {
+                left: [1, 3, 0],
+                right: [3, 2, 0],
+                side: Side::Right,
+            },
+        ],
+        point: [2, 2, 1, 3, 1],
+        left: [2, 2, 1],
+        right: [1, 1, 2],
+        want: None,
+    },
+];
+
 #[test]
 fn searched_decisions(rt: HostRuntime) -> Result<(), Fail> {
-    let cases = [
-        expected(
-            [2, 2, 2],
-            [
-                ranked([1, 0, 2], [2, 0, 1], Side::Right),
-                ranked([0, 2, 1], [0, 1, 2], Side::Equal),
-            ],
-            [4, 2, 2, 0, 0],
-            [2, 1, 0],
-            [1, 2, 0],
-            Some(Side::Left),
-        ),
-        expected(
-            [2, 3, 3],
-            [
-                ranked([2, 2, 0], [1, 3, 0], Side::Equal),
-                ranked([0, 3, 2], [0, 2, 3], Side::Right),
-            ],
-            [1, 1, 1, 3, 4],
-            [1, 3, 0],
-            [2, 1, 0],
-            Some(Side::Left),
-        ),
-        expected(
-            [3, 3, 2],
-            [
-                ranked([3, 1, 1], [2, 3, 2], Side::Equal),
-                ranked([1, 3, 2], [2, 2, 1], Side::Left),
-            ],
-            [2, 4, 1, 1, 2],
-            [3, 2, 2],
-            [1, 3, 1],
-            Some(Side::Left),
-        ),
-        expected(
-            [2, 2, 2],
-            [
-                ranked([0, 2, 1], [0, 1, 2], Side::Right),
-                ranked([2, 2, 1], [1, 1, 2], Side::Right),
-            ],
-            [1, 1, 4, 0, 0],
-            [1, 1, 2],
-            [2, 2, 1],
-            Some(Side::Left),
-        ),
-        expected(
-            [2, 2, 2],
-            [
-                ranked([2, 1, 0], [1, 2, 0], Side::Equal),
-                ranked([2, 0, 1], [1, 0, 2], Side::Left),
-            ],
-            [3, 3, 1, 0, 0],
-            [2, 1, 2],
-            [1, 2, 1],
-            Some(Side::Left),
-        ),
-        expected(
-            [2, 3, 3],
-            [
-                ranked([1, 0, 3], [2, 0, 1], Side::Left),
-                ranked([0, 1, 2], [0, 3, 1], Side::Right),
-            ],
-            [4, 3, 3, 3, 3],
-            [2, 1, 2],
-            [1, 3, 3],
-            Some(Side::Right),
-        ),
-        expected(
-            [2, 2, 2],
-            [
-                ranked([0, 1, 2], [0, 2, 1], Side::Right),
-                ranked([2, 1, 2], [1, 2, 1], Side::Left),
-            ],
-            [3, 2, 1, 0, 0],
-            [1, 2, 1],
-            [2, 1, 2],
-            Some(Side::Right),
-        ),
-        expected(
-            [2, 3, 3],
-            [
-                ranked([1, 0, 3], [2, 0, 2], Side::Left),
-                ranked([2, 1, 3], [1, 2, 1], Side::Left),
-            ],
-            [1, 2, 4, 1, 4],
-            [2, 1, 2],
-            [1, 2, 3],
-            Some(Side::Right),
-        ),
-        expected(
-            [3, 3, 2],
-            [
-                ranked([2, 3, 1], [1, 2, 2], Side::Equal),
-                ranked([2, 0, 1], [1, 0, 2], Side::Right),
-            ],
-            [2, 4, 3, 2, 4],
-            [1, 1, 2],
-            [2, 3, 1],
-            Some(Side::Right),
-        ),
-        expected(
-            [2, 2, 2],
-            [
-                ranked([2, 2, 1], [1, 1, 2], Side::Equal),
-                ranked([1, 2, 0], [2, 1, 0], Side::Equal),
-            ],
-            [1, 1, 2, 0, 0],
-            [2, 0, 1],
-            [1, 0, 2],
-            Some(Side::Right),
-        ),
-        expected(
-            [2, 2, 2],
-            [
-                ranked([2, 1, 0], [1, 2, 0], Side::Equal),
-                ranked([2, 1, 1], [1, 2, 2], Side::Right),
-            ],
-            [1, 1, 1, 0, 0],
-            [1, 2, 0],
-            [2, 1, 0],
-            Some(Side::Equal),
-        ),
-        expected(
-            [2, 3, 3],
-            [
-                ranked([0, 3, 1], [0, 2, 2], Side::Left),
-                ranked([0, 2, 2], [0, 1, 3], Side::Equal),
-            ],
-            [4, 3, 2, 1, 3],
-            [0, 1, 3],
-            [0, 2, 2],
-            Some(Side::Equal),
-        ),
-        expected(
-            [2, 2, 2],
-            [
-                ranked([0, 2, 1], [0, 1, 2], Side::Equal),
-                ranked([1, 2, 0], [2, 1, 0], Side::Equal),
-            ],
-            [4, 4, 4, 0, 0],
-            [2, 1, 0],
-            [1, 2, 0],
-            Some(Side::Equal),
-        ),
-        expected(
-            [2, 3, 3],
-            [
-                ranked([1, 3, 0], [2, 1, 0], Side::Left),
-                ranked([1, 0, 3], [2, 0, 2], Side::Equal),
-            ],
-            [2, 3, 4, 2, 2],
-            [2, 0, 2],
-            [1, 0, 3],
-            Some(Side::Equal),
-        ),
-        expected(
-            [2, 3, 3],
-            [
-                ranked([1, 0, 2], [2, 0, 1], Side::Equal),
-                ranked([1, 1, 2], [2, 3, 1], Side::Right),
-            ],
-            [4, 4, 3, 4, 3],
-            [2, 0, 1],
-            [1, 0, 2],
-            Some(Side::Equal),
-        ),
-        expected(
-            [2, 3, 3],
-            [
-                ranked([0, 1, 2], [0, 2, 1], Side::Left),
-                ranked([1, 2, 1], [2, 1, 2], Side::Right),
-            ],
-            [3, 1, 4, 2, 1],
-            [1, 2, 3],
-            [2, 3, 1],
-            None,
-        ),
-        expected(
-            [2, 3, 3],
-            [
-                ranked([1, 0, 3], [2, 0, 1], Side::Left),
-                ranked([0, 1, 3], [0, 3, 2], Side::Right),
-            ],
-            [1, 3, 3, 3, 4],
-            [2, 2, 1],
-            [1, 1, 2],
-            None,
-        ),
-        expected(
-            [2, 3, 3],
-            [
-                ranked([2, 1, 3], [1, 3, 2], Side::Right),
-                ranked([1, 2, 1], [2, 1, 3], Side::Right),
-            ],
-            [2, 3, 3, 1, 3],
-            [1, 2, 3],
-            [2, 3, 2],
-            None,
-        ),
-        expected(
-            [3, 3, 2],
-            [
-                ranked([1, 3, 0], [2, 1, 0], Side::Left),
-                ranked([2, 3, 2], [3, 2, 1], Side::Left),
-            ],
-            [3, 3, 4, 4, 2],
-            [3, 2, 0],
-            [1, 3, 0],
-            None,
-        ),
-        expected(
-            [3, 3, 2],
-            [
-                ranked([2, 2, 1], [1, 3, 2], Side::Right),
-                ranked([1, 3, 0], [3, 2, 0], Side::Right),
-            ],
-            [2, 2, 1, 3, 1],
-            [2, 2, 1],
-            [1, 1, 2],
-            None,
-        ),
-    ];
-    for case in &cases {
+    for case in &SEARCHED {
         assert_eq!(rt; decided(&rt, rt.alloc(), case)?, case.want);
     }
     Ok(())
