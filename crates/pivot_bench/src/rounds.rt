@@ -45,6 +45,7 @@ fn row_of(seed: u64, row: u32, kind: Rows) -> Row
     Row::of(&cells)
 }
 
+/// -1, 0 or 1 by the last digit to base 3.
 fn digit(number: u64) -> i8
     ensures { unsigned_abs result ≤ 1 }
 {
@@ -65,6 +66,7 @@ fn residue(row: u32, column: u32) -> i8
     sign(row == 0 || column > 0 && (0..12_u32).any(|root| root * root % 23 == apart))
 }
 
+/// 1, or -1.
 fn sign(is_positive: bool) -> i8
     ensures { unsigned_abs result ≤ 1 }
 {
