@@ -215,6 +215,28 @@ fn line_is_too_long_from_byte_4097_on(rt: HostRuntime) -> Result<(), Fail> {
     expect_check(&rt, rt.alloc(), &long, 7, b"invalid 1 form\n")
 }
 
+/// A file of claims with the same answer so many times.
+fn claims_file(alloc: Global, answers: u32) -> Result<Vec<u8>, Fail> {
+    let mut text = Vec::from_slice(alloc, b"paprika claims 1\nmodel 2,2 degree 2\n")?;
+    for _ in 0..answers {
+        text.extend_from_slice(b"answer 2,1/1,2 left\n")?;
+    }
+    text.extend_from_slice(b"end\n")?;
+    Ok(text)
+}
+
+#[test]
+fn claim_131073_is_over_the_limit(rt: HostRuntime) -> Result<(), Fail> {
+    for (answers, want) in [
+        (131_072, b"valid\n".as_slice()),
+        (131_073, b"invalid 131075 limit\n"),
+    ] {
+        let text = claims_file(rt.alloc(), answers)?;
+        expect_check(&rt, rt.alloc(), text.as_slice(), 4_096, want)?;
+    }
+    Ok(())
+}
+
 #[test]
 fn ends_fail_at_once(rt: HostRuntime) -> Result<(), Fail> {
     let words = [format!(in rt.alloc(); "check")?];
