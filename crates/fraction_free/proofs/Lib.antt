@@ -10,3 +10,4 @@ pub mod Sums
 pub mod SlackLine
 pub mod AddRow
 pub mod DropRow
+pub mod UnitSteps

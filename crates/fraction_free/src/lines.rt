@@ -111,7 +111,7 @@ impl Line {
         requires exact { HasQuotient (entry *ℤ number_at self.old place -ℤ factor *ℤ other) scale.now }
         ensures { IsExchangedAt scale.now entry factor other self.old self.new place }
     {
-        let quotient = scale.step(entry, self.get(place), factor, other);
+        let quotient = quotient_of(entry, self.get(place), factor, other, scale);
         self.set(place, quotient);
     }
 
@@ -146,6 +146,24 @@ impl Line {
             self.set(place, self.get(place) + times * other.get(place));
         }
     }
+}
+
+/// The exact quotient by the old scale. Where entry and scale are 1, as in most pivots on rows of few differing
+/// increments, there is nothing to divide.
+#[inline]
+fn quotient_of(entry: i128, number: i128, factor: i128, other: i128, scale: &Divisor) -> i128
+    requires entry_size { unsigned_abs entry < 2 ^ 89 }
+    requires number_size { unsigned_abs number < 2 ^ 89 }
+    requires factor_size { unsigned_abs factor < 2 ^ 89 }
+    requires other_size { unsigned_abs other < 2 ^ 89 }
+    requires exact { HasQuotient (entry *ℤ number -ℤ factor *ℤ other) scale.now }
+    ensures quotient { result *ℤ scale.now ≡ entry *ℤ number -ℤ factor *ℤ other }
+    ensures size { unsigned_abs result < 2 ^ 126 }
+{
+    if entry == 1 && scale.number() == 1 {
+        return number - factor * other;
+    }
+    scale.step(entry, number, factor, other)
 }
 
 /// A number, or its negation where the first is negative.

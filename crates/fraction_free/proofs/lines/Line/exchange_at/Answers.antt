@@ -25,8 +25,8 @@ exchanged_at s entry factor other old new place v q inside is value exact = reco
 pub returns : goal.returns
 returns c =
     let old = c.args.self.now in
-    let q = c.step-quotient.result in
+    let q = c.quotient_of-quotient.result in
     exchanged_at c.args.scale.now c.args.entry c.args.factor c.args.other old c.set.new.self c.args.place _ q c.requires.place c.set.ensures
-    (small_back q c.step-quotient.ensures.size)
+    (small_back q c.quotient_of-quotient.ensures.size)
     (quotient_back q c.args.scale.now c.args.entry c.get.result (number_at old c.args.place) c.args.factor c.args.other c.get.ensures
-    c.requires.entry_size c.requires.number_size c.requires.factor_size c.requires.other_size c.step-quotient.ensures.quotient)
+    c.requires.entry_size c.requires.number_size c.requires.factor_size c.requires.other_size c.quotient_of-quotient.ensures.quotient)
