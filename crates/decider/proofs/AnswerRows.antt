@@ -16,7 +16,7 @@ use Rattle.criteria_model.proofs.Integers.{positive_from_multiple, zero_from_mul
 use Rattle.criteria_model.proofs.GainLemmas.{Favours, ranks_favours, favours_ranks}
 use Rattle.criteria_model.proofs.RowLemmas.{dot-minus, dot-times, length-times}
 use Rattle.fraction_free.specs.declared.loaded.LoadedRow.{LoadedRow}
-use Rattle.fraction_free.specs.Tableau.{Tableau, no_row}
+use Rattle.fraction_free.specs.Dictionary.{DictionaryView, no_row}
 use Rattle.simplex.specs.Rows.{MeetsRows}
 use Rattle.decider.specs.Standing.{rows_of, rows_of_answers, StandsFor}
 
@@ -186,13 +186,13 @@ meets_scaled levels answers factor values low positive meets = record {
 
 -- ---- the rows of a dictionary that stands for answers, and of a ranking that is tried
 
-pub standing_meets : (levels : List ℕ) (answers : List Answer) (d : Tableau) (values : List ℤ) (pair : Pair) (side : Side) → StandsFor levels answers d → MeetsAll levels answers values → Ranks levels values pair side
+pub standing_meets : (levels : List ℕ) (answers : List Answer) (d : DictionaryView) (values : List ℤ) (pair : Pair) (side : Side) → StandsFor levels answers d → MeetsAll levels answers values → Ranks levels values pair side
     → MeetsRows d.columns (d.loaded ++ rows_of levels pair side) values
 standing_meets levels answers d values pair side stands meets ranks =
     subst (λ (n : ℕ). MeetsRows n (d.loaded ++ rows_of levels pair side) values) (sym stands.columns)
     (subst (λ (l : List LoadedRow). MeetsRows (increments levels) (l ++ rows_of levels pair side) values) (sym stands.loaded) (meets_tried levels answers values pair side meets ranks))
 
-pub meets_standing : (levels : List ℕ) (answers : List Answer) (d : Tableau) (values : List ℤ) (pair : Pair) (side : Side) → StandsFor levels answers d → MeetsRows d.columns (d.loaded ++ rows_of levels pair side) values
+pub meets_standing : (levels : List ℕ) (answers : List Answer) (d : DictionaryView) (values : List ℤ) (pair : Pair) (side : Side) → StandsFor levels answers d → MeetsRows d.columns (d.loaded ++ rows_of levels pair side) values
     → MeetsAll levels answers values × Ranks levels values pair side
 meets_standing levels answers d values pair side stands meets =
     tried_meets levels answers values pair side

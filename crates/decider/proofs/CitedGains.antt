@@ -22,7 +22,7 @@ use Rattle.farkas_check.specs.declared.cites.Cite.{Cite}
 use Rattle.farkas_check.specs.Sums.{cited_gain, total}
 use Rattle.farkas_check.specs.Proof.{IsThere}
 use Rattle.fraction_free.specs.declared.loaded.LoadedRow.{LoadedRow}
-use Rattle.fraction_free.specs.Tableau.{loaded_at, no_row}
+use Rattle.fraction_free.specs.Dictionary.{loaded_at, no_row}
 use Rattle.simplex.specs.Results.{coefficient}
 use Rattle.decider.specs.Standing.{rows_of, rows_of_answers}
 use Rattle.decider.specs.Combining.{rows_for, rows_in, first_row, IsOpposed, cited_sum, times_cites}

@@ -9,7 +9,7 @@ use Rattle.criteria_model.specs.Rows.{dot, plus, times}
 use Rattle.criteria_model.proofs.Integers.{mul_nonneg, mul_positive}
 use Rattle.criteria_model.proofs.RowLemmas.{dot-plus, dot-times}
 use Rattle.fraction_free.specs.declared.loaded.LoadedRow.{LoadedRow}
-use Rattle.fraction_free.specs.Tableau.{loaded_at, no_row}
+use Rattle.fraction_free.specs.Dictionary.{loaded_at, no_row}
 use Rattle.simplex.specs.declared.row_weights.RowWeight.{RowWeight}
 use Rattle.simplex.specs.declared.found.Clash.{Clash}
 use Rattle.simplex.specs.Weights.{IsRowWeight, weighted}

@@ -10,9 +10,9 @@ use Rattle.farkas_check.specs.declared.cites.Cite.{Cite}
 use Rattle.farkas_check.specs.Cited.{no_cite}
 use Rattle.simplex.specs.declared.row_weights.RowWeight.{RowWeight}
 use Rattle.simplex.specs.declared.found.Clash.{Clash}
-use Rattle.simplex.specs.Rows.{HasNoDivisor}
+use Rattle.simplex.specs.Rows.{IsCoprime}
 use Rattle.simplex.specs.Weights.{IsRowWeight, AreRowWeights, no_weight}
-use Rattle.simplex.proofs.Quotients.{factor_small, quotient_has_no_divisor}
+use Rattle.simplex.proofs.Quotients.{factor_small, quotient_is_coprime}
 use Rattle.decider.specs.Combining.{rows_in, row_at, CitesRows, IsGreatestDivisor, times_cites, EndsWithTried, Combines}
 use Rattle.decider.proofs.AnswerRows.{All-first, All-later}
 use Rattle.decider.proofs.Walks.{rows_apart}
@@ -78,9 +78,9 @@ numbers_multiple weight increments cites divisor scale own list are =
     ∙ ap (λ (l : List ℤ). (divisor *ℤ scale) ∷ l) (sym (map-append (λ (x : ℤ). divisor *ℤ x) own (map (λ cite. cite.weight) list)))
 
 pub divided_has_no_divisor : (weight : ℤ) (increments : List ℤ) (cites : List Cite) (divisor scale : ℤ) (own : List ℤ) (list : List Cite) → AreDivided weight increments cites divisor scale own list
-    → HasNoDivisor (scale ∷ own ++ map (λ cite. cite.weight) list)
+    → IsCoprime (scale ∷ own ++ map (λ cite. cite.weight) list)
 divided_has_no_divisor weight increments cites divisor scale own list are =
-    quotient_has_no_divisor (weight ∷ increments ++ map (λ cite. cite.weight) cites) (scale ∷ own ++ map (λ cite. cite.weight) list) divisor are.greatest.positive
+    quotient_is_coprime (weight ∷ increments ++ map (λ cite. cite.weight) cites) (scale ∷ own ++ map (λ cite. cite.weight) list) divisor are.greatest.positive
     (numbers_multiple weight increments cites divisor scale own list are) are.greatest.greatest
 
 pub divided_scale_small : (weight : ℤ) (increments : List ℤ) (cites : List Cite) (divisor scale : ℤ) (own : List ℤ) (list : List Cite) → AreDivided weight increments cites divisor scale own list → unsigned_abs weight < 2 ^ 96

@@ -15,9 +15,9 @@ use Rattle.criteria_model.proofs.Integers.{positive_from_multiple}
 use Rattle.farkas_check.specs.declared.combination.Combination.{Combination}
 use Rattle.farkas_check.specs.Proof.{Proves}
 use Rattle.fraction_free.specs.declared.loaded.LoadedRow.{LoadedRow}
-use Rattle.fraction_free.specs.Tableau.{Tableau, IsDictionary, loaded_at}
+use Rattle.fraction_free.specs.Dictionary.{DictionaryView, IsDictionary, loaded_at}
 use Rattle.simplex.specs.declared.found.Clash.{Clash}
-use Rattle.simplex.specs.Rows.{MeetsRows, HasNoDivisor}
+use Rattle.simplex.specs.Rows.{MeetsRows, IsCoprime}
 use Rattle.simplex.specs.Weights.{is_weight}
 use Rattle.simplex.specs.Results.{IsClash}
 use Rattle.decider.specs.declared.decision.Decision.TheVariants.{Undecided, Implied}
@@ -73,14 +73,14 @@ row_scaled columns row factor values least low meets =
     from (inl e) h = subst (λ (n : ℤ). n ≤ℤ dot row.coefficients values) (sym e) (nonneg factor (dot row.coefficients values) low (subst (λ (n : ℤ). n ≤ℤ (factor *ℤ dot row.coefficients values)) e h))
     from (inr e) h = subst (λ (n : ℤ). n ≤ℤ dot row.coefficients values) (sym e) (positive_from_multiple factor (dot row.coefficients values) low (subst (λ (n : ℤ). n ≤ℤ (factor *ℤ dot row.coefficients values)) e h))
 
-rows_scaled : (d : Tableau) (factor : ℤ) (values : List ℤ) → IsDictionary d → pos 1 ≤ℤ factor → All (λ x. pos 1 ≤ℤ x) values → MeetsRows d.columns d.loaded (times factor values) → MeetsRows d.columns d.loaded values
+rows_scaled : (d : DictionaryView) (factor : ℤ) (values : List ℤ) → IsDictionary d → pos 1 ≤ℤ factor → All (λ x. pos 1 ≤ℤ x) values → MeetsRows d.columns d.loaded (times factor values) → MeetsRows d.columns d.loaded values
 rows_scaled d factor values is low positive meets = record {
   len = sym (length-times factor values) ∙ meets.len;
   positive = positive;
   each = λ row lt. row_scaled d.columns (loaded_at d.loaded row) factor values (is.rows row lt).least low (meets.each row lt);
 }
 
-reduced_meets : (d : Tableau) (point given kept : List ℤ) → IsDictionary d → given ≡ point → (factor : ℤ) × (pos 1 ≤ℤ factor) × (given ≡ times factor kept) → All (λ x. pos 1 ≤ℤ x) kept → MeetsRows d.columns d.loaded point
+reduced_meets : (d : DictionaryView) (point given kept : List ℤ) → IsDictionary d → given ≡ point → (factor : ℤ) × (pos 1 ≤ℤ factor) × (given ≡ times factor kept) → All (λ x. pos 1 ≤ℤ x) kept → MeetsRows d.columns d.loaded point
     → MeetsRows d.columns d.loaded kept
 reduced_meets d point given kept is same multiple positive meets =
     rows_scaled d multiple.0 kept is multiple.1 positive (subst (MeetsRows d.columns d.loaded) (sym same ∙ multiple.2) meets)
@@ -100,10 +100,10 @@ pub record IsReduced (point given kept : List ℤ) : Type 0 where
   pub value : given ≡ point
   pub multiple : (factor : ℤ) × (pos 1 ≤ℤ factor) × (given ≡ times factor kept)
   pub positive : All (λ x. pos 1 ≤ℤ x) kept
-  pub reduced : HasNoDivisor kept
+  pub reduced : IsCoprime kept
 
-pub opens_left : (levels : List ℕ) (d : Tableau) (pair : Pair) (side : Side) (point given kept other : List ℤ) → IsDictionary d → d.columns ≡ increments levels → side ≡ Left → IsReduced point given kept
-    → MeetsRows d.columns d.loaded point → Ranks levels point pair side → MeetsRows d.columns (d.loaded ++ rows_of levels pair (against side)) other → HasNoDivisor other → OpensRows levels d.columns d.loaded pair kept other
+pub opens_left : (levels : List ℕ) (d : DictionaryView) (pair : Pair) (side : Side) (point given kept other : List ℤ) → IsDictionary d → d.columns ≡ increments levels → side ≡ Left → IsReduced point given kept
+    → MeetsRows d.columns d.loaded point → Ranks levels point pair side → MeetsRows d.columns (d.loaded ++ rows_of levels pair (against side)) other → IsCoprime other → OpensRows levels d.columns d.loaded pair kept other
 opens_left levels d pair side point given kept other is columns e r meets ranks other_meets reduced = record {
   plus_meets = reduced_meets d point given kept is r.value r.multiple r.positive meets;
   minus_meets = meets_first d.columns d.loaded (rows_of levels pair (against side)) other other_meets;
@@ -113,8 +113,8 @@ opens_left levels d pair side point given kept other is columns e r meets ranks 
   minus_reduced = reduced;
 }
 
-pub opens_right : (levels : List ℕ) (d : Tableau) (pair : Pair) (side : Side) (point given kept other : List ℤ) → IsDictionary d → d.columns ≡ increments levels → side ≡ Right → IsReduced point given kept
-    → MeetsRows d.columns d.loaded point → Ranks levels point pair side → MeetsRows d.columns (d.loaded ++ rows_of levels pair (against side)) other → HasNoDivisor other → OpensRows levels d.columns d.loaded pair other kept
+pub opens_right : (levels : List ℕ) (d : DictionaryView) (pair : Pair) (side : Side) (point given kept other : List ℤ) → IsDictionary d → d.columns ≡ increments levels → side ≡ Right → IsReduced point given kept
+    → MeetsRows d.columns d.loaded point → Ranks levels point pair side → MeetsRows d.columns (d.loaded ++ rows_of levels pair (against side)) other → IsCoprime other → OpensRows levels d.columns d.loaded pair other kept
 opens_right levels d pair side point given kept other is columns e r meets ranks other_meets reduced = record {
   plus_meets = meets_first d.columns d.loaded (rows_of levels pair (against side)) other other_meets;
   minus_meets = reduced_meets d point given kept is r.value r.multiple r.positive meets;
@@ -124,8 +124,8 @@ opens_right levels d pair side point given kept other is columns e r meets ranks
   minus_reduced = r.reduced;
 }
 
-pub opens_both : (levels : List ℕ) (d : Tableau) (pair : Pair) (side : Side) (found other : List ℤ) → d.columns ≡ increments levels → side ≡ Equal → MeetsRows d.columns (d.loaded ++ rows_of levels pair Left) found → HasNoDivisor found
-    → MeetsRows d.columns (d.loaded ++ rows_of levels pair (against side)) other → HasNoDivisor other → OpensRows levels d.columns d.loaded pair found other
+pub opens_both : (levels : List ℕ) (d : DictionaryView) (pair : Pair) (side : Side) (found other : List ℤ) → d.columns ≡ increments levels → side ≡ Equal → MeetsRows d.columns (d.loaded ++ rows_of levels pair Left) found → IsCoprime found
+    → MeetsRows d.columns (d.loaded ++ rows_of levels pair (against side)) other → IsCoprime other → OpensRows levels d.columns d.loaded pair found other
 opens_both levels d pair side found other columns e meets found_reduced other_meets reduced = record {
   plus_meets = meets_first d.columns d.loaded (rows_of levels pair Left) found meets;
   minus_meets = meets_first d.columns d.loaded (rows_of levels pair (against side)) other other_meets;
@@ -137,37 +137,37 @@ opens_both levels d pair side found other columns e meets found_reduced other_me
 
 -- ---- rows of the answers
 
-pub standing_point : (levels : List ℕ) (answers : List Answer) (d : Tableau) (point : List ℤ) → StandsFor levels answers d → MeetsAll levels answers point → MeetsRows d.columns d.loaded point
+pub standing_point : (levels : List ℕ) (answers : List Answer) (d : DictionaryView) (point : List ℤ) → StandsFor levels answers d → MeetsAll levels answers point → MeetsRows d.columns d.loaded point
 standing_point levels answers d point stands meets =
     subst (λ (n : ℕ). MeetsRows n d.loaded point) (sym stands.columns)
     (subst (λ (l : List LoadedRow). MeetsRows (increments levels) l point) (sym stands.loaded) (all_meets_rows levels answers point meets))
 
-point_standing : (levels : List ℕ) (answers : List Answer) (d : Tableau) (point : List ℤ) → StandsFor levels answers d → MeetsRows d.columns d.loaded point → MeetsAll levels answers point
+point_standing : (levels : List ℕ) (answers : List Answer) (d : DictionaryView) (point : List ℤ) → StandsFor levels answers d → MeetsRows d.columns d.loaded point → MeetsAll levels answers point
 point_standing levels answers d point stands meets =
     rows_meet_all levels answers point
     (subst (λ (n : ℕ). MeetsRows n (rows_of_answers levels answers) point) stands.columns (subst (λ (l : List LoadedRow). MeetsRows d.columns l point) stands.loaded meets))
 
-pub standing_still : (levels : List ℕ) (answers : List Answer) (old new : Tableau) → new.columns ≡ old.columns → new.loaded ≡ old.loaded → StandsFor levels answers old → StandsFor levels answers new
+pub standing_still : (levels : List ℕ) (answers : List Answer) (old new : DictionaryView) → new.columns ≡ old.columns → new.loaded ≡ old.loaded → StandsFor levels answers old → StandsFor levels answers new
 standing_still levels answers old new columns loaded stands = record { columns = columns ∙ stands.columns; loaded = loaded ∙ stands.loaded }
 
-pub rows_few : (levels : List ℕ) (answers : List Answer) (d : Tableau) → IsDictionary d → StandsFor levels answers d → rows_in answers ≤ 65536
+pub rows_few : (levels : List ℕ) (answers : List Answer) (d : DictionaryView) → IsDictionary d → StandsFor levels answers d → rows_in answers ≤ 65536
 rows_few levels answers d is stands = omega (arith, sym (rows_length levels answers), ap length stands.loaded, is.rows_room, is.rows_most)
 
-standing_clash : (levels : List ℕ) (answers : List Answer) (d : Tableau) (pair : Pair) (side tried : Side) (clash : Clash) → StandsFor levels answers d → tried ≡ against side
+standing_clash : (levels : List ℕ) (answers : List Answer) (d : DictionaryView) (pair : Pair) (side tried : Side) (clash : Clash) → StandsFor levels answers d → tried ≡ against side
     → IsClash d.columns (d.loaded ++ rows_of levels pair tried) clash → IsClash (increments levels) (rows_of_answers levels answers ++ rows_of levels pair (against side)) clash
 standing_clash levels answers d pair side tried clash stands e is =
     subst (λ (n : ℕ). IsClash n (rows_of_answers levels answers ++ rows_of levels pair (against side)) clash) stands.columns
     (subst (λ (l : List LoadedRow). IsClash d.columns (l ++ rows_of levels pair (against side)) clash) stands.loaded
     (subst (λ (s : Side). IsClash d.columns (d.loaded ++ rows_of levels pair s) clash) e is))
 
-pub standing_ends : (levels : List ℕ) (answers : List Answer) (d : Tableau) (point : List ℤ) (pair : Pair) (side tried : Side) (clash : Clash) → StandsFor levels answers d → tried ≡ against side
+pub standing_ends : (levels : List ℕ) (answers : List Answer) (d : DictionaryView) (point : List ℤ) (pair : Pair) (side tried : Side) (clash : Clash) → StandsFor levels answers d → tried ≡ against side
     → IsClash d.columns (d.loaded ++ rows_of levels pair tried) clash → MeetsAll levels answers point → EndsWithTried answers clash.rows
 standing_ends levels answers d point pair side tried clash stands e is meets = tried_is_last levels answers point pair side clash meets (standing_clash levels answers d pair side tried clash stands e is)
 
 -- ---- decisions
 
 -- what leads to `Implied`
-pub record IsRefuted (levels : List ℕ) (answers : List Answer) (d : Tableau) (point : List ℤ) (pair : Pair) (side tried : Side) (clash : Clash) (combination : Combination) : Type 0 where
+pub record IsRefuted (levels : List ℕ) (answers : List Answer) (d : DictionaryView) (point : List ℤ) (pair : Pair) (side tried : Side) (clash : Clash) (combination : Combination) : Type 0 where
   pub fit : All (λ answer. IsFit levels answer.pair) answers
   pub pair_fits : IsFit levels pair
   pub meets : MeetsAll levels answers point
@@ -178,7 +178,7 @@ pub record IsRefuted (levels : List ℕ) (answers : List Answer) (d : Tableau) (
   pub clashes : IsClash d.columns (d.loaded ++ rows_of levels pair tried) clash
   pub combines : Combines answers clash combination
 
-combined : (levels : List ℕ) (answers : List Answer) (d : Tableau) (point : List ℤ) (pair : Pair) (side tried : Side) (clash : Clash) (combination : Combination) → IsRefuted levels answers d point pair side tried clash combination
+combined : (levels : List ℕ) (answers : List Answer) (d : DictionaryView) (point : List ℤ) (pair : Pair) (side tried : Side) (clash : Clash) (combination : Combination) → IsRefuted levels answers d point pair side tried clash combination
     → IsCombined levels answers pair side clash combination
 combined levels answers d point pair side tried clash combination r = record {
   fit = r.fit;
@@ -188,17 +188,17 @@ combined levels answers d point pair side tried clash combination r = record {
   combines = r.combines;
 }
 
-refuted_proves : (levels : List ℕ) (answers : List Answer) (d : Tableau) (point : List ℤ) (pair : Pair) (side tried : Side) (clash : Clash) (combination : Combination) → IsRefuted levels answers d point pair side tried clash combination
+refuted_proves : (levels : List ℕ) (answers : List Answer) (d : DictionaryView) (point : List ℤ) (pair : Pair) (side tried : Side) (clash : Clash) (combination : Combination) → IsRefuted levels answers d point pair side tried clash combination
     → Proves levels answers combination pair side
 refuted_proves levels answers d point pair side tried clash combination r =
     combined_proves levels answers pair side clash combination point (combined levels answers d point pair side tried clash combination r) r.meets r.ranks
 
-pub implied_decision : (levels : List ℕ) (answers : List Answer) (d : Tableau) (point : List ℤ) (pair : Pair) (side tried : Side) (clash : Clash) (combination : Combination) → IsRefuted levels answers d point pair side tried clash combination
-    → HasNoDivisor (numbers_of combination) → unsigned_abs combination.scale < 2 ^ 96 → IsDecision levels answers pair (Implied side combination)
+pub implied_decision : (levels : List ℕ) (answers : List Answer) (d : DictionaryView) (point : List ℤ) (pair : Pair) (side tried : Side) (clash : Clash) (combination : Combination) → IsRefuted levels answers d point pair side tried clash combination
+    → IsCoprime (numbers_of combination) → unsigned_abs combination.scale < 2 ^ 96 → IsDecision levels answers pair (Implied side combination)
 implied_decision levels answers d point pair side tried clash combination r reduced small =
     let proof = refuted_proves levels answers d point pair side tried clash combination r in (proof, ranked_of levels answers combination pair side proof, reduced, small)
 
-pub implied_exact : (levels : List ℕ) (answers : List Answer) (d : Tableau) (point : List ℤ) (pair : Pair) (side tried : Side) (clash : Clash) (combination : Combination) → IsRefuted levels answers d point pair side tried clash combination
+pub implied_exact : (levels : List ℕ) (answers : List Answer) (d : DictionaryView) (point : List ℤ) (pair : Pair) (side tried : Side) (clash : Clash) (combination : Combination) → IsRefuted levels answers d point pair side tried clash combination
     → IsExact levels answers pair (Implied side combination)
 implied_exact levels answers d point pair side tried clash combination r =
     let ranked = ranked_of levels answers combination pair side (refuted_proves levels answers d point pair side tried clash combination r) in
@@ -207,12 +207,12 @@ implied_exact levels answers d point pair side tried clash combination r =
       ranked_pair = λ other. (λ e. subst (IsRanked levels answers pair) e ranked, λ also. ranks_once levels point pair side other (ranked point r.meets) (also point r.meets));
     }
 
-pub implied_few : (levels : List ℕ) (answers : List Answer) (d : Tableau) (point : List ℤ) (pair : Pair) (side tried : Side) (clash : Clash) (combination : Combination) → IsRefuted levels answers d point pair side tried clash combination
+pub implied_few : (levels : List ℕ) (answers : List Answer) (d : DictionaryView) (point : List ℤ) (pair : Pair) (side tried : Side) (clash : Clash) (combination : Combination) → IsRefuted levels answers d point pair side tried clash combination
     → count_by is_weight (weights_of combination) ≤ 24
 implied_few levels answers d point pair side tried clash combination r =
     omega (arith, few_weights levels answers pair side clash combination (combined levels answers d point pair side tried clash combination r), r.stands.columns, r.dictionary.columns_most)
 
-opens_of : (levels : List ℕ) (answers : List Answer) (d : Tableau) (pair : Pair) (plus minus : List ℤ) → StandsFor levels answers d → OpensRows levels d.columns d.loaded pair plus minus → Opens levels answers pair plus minus
+opens_of : (levels : List ℕ) (answers : List Answer) (d : DictionaryView) (pair : Pair) (plus minus : List ℤ) → StandsFor levels answers d → OpensRows levels d.columns d.loaded pair plus minus → Opens levels answers pair plus minus
 opens_of levels answers d pair plus minus stands opens = record {
   plus_meets = point_standing levels answers d plus stands opens.plus_meets;
   minus_meets = point_standing levels answers d minus stands opens.minus_meets;
@@ -220,12 +220,12 @@ opens_of levels answers d pair plus minus stands opens = record {
   less = opens.less;
 }
 
-pub undecided_decision : (levels : List ℕ) (answers : List Answer) (d : Tableau) (pair : Pair) (plus minus : List ℤ) → StandsFor levels answers d → OpensRows levels d.columns d.loaded pair plus minus
+pub undecided_decision : (levels : List ℕ) (answers : List Answer) (d : DictionaryView) (pair : Pair) (plus minus : List ℤ) → StandsFor levels answers d → OpensRows levels d.columns d.loaded pair plus minus
     → IsDecision levels answers pair (Undecided plus minus)
 undecided_decision levels answers d pair plus minus stands opens =
     let is = opens_of levels answers d pair plus minus stands opens in (is, opened levels answers pair plus minus is, opens.plus_reduced, opens.minus_reduced)
 
-pub undecided_exact : (levels : List ℕ) (answers : List Answer) (d : Tableau) (pair : Pair) (plus minus : List ℤ) → StandsFor levels answers d → OpensRows levels d.columns d.loaded pair plus minus
+pub undecided_exact : (levels : List ℕ) (answers : List Answer) (d : DictionaryView) (pair : Pair) (plus minus : List ℤ) → StandsFor levels answers d → OpensRows levels d.columns d.loaded pair plus minus
     → IsExact levels answers pair (Undecided plus minus)
 undecided_exact levels answers d pair plus minus stands opens =
     let is_open : IsOpen levels answers pair = opened levels answers pair plus minus (opens_of levels answers d pair plus minus stands opens) in
@@ -235,7 +235,7 @@ undecided_exact levels answers d pair plus minus stands opens =
     }
 
 -- where the point ranks the pair equal, there is a vector on the other side too
-pub standing_mirrored : (levels : List ℕ) (answers : List Answer) (d new : Tableau) (point other : List ℤ) (pair : Pair) (side tried : Side) → StandsFor levels answers d → new.columns ≡ d.columns → new.loaded ≡ d.loaded
+pub standing_mirrored : (levels : List ℕ) (answers : List Answer) (d new : DictionaryView) (point other : List ℤ) (pair : Pair) (side tried : Side) → StandsFor levels answers d → new.columns ≡ d.columns → new.loaded ≡ d.loaded
     → MeetsAll levels answers point → Ranks levels point pair side → tried ≡ against side → MeetsRows d.columns (d.loaded ++ rows_of levels pair tried) other → side ≡ Equal
     → (vector : List ℤ) × MeetsRows new.columns (new.loaded ++ rows_of levels pair Left) vector
 standing_mirrored levels answers d new point other pair side tried stands columns loaded meets ranks e other_meets f =

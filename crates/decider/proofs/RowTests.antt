@@ -8,7 +8,7 @@ use Rattle.std.proofs.lemmas.Bool.{eqb-true, eq-eqb, true≢false, false≢true}
 use Rattle.std.proofs.lemmas.Bool.Decides.{Decides-int_eq}
 use Rattle.std.proofs.lemmas.Int.{to_z-of_z}
 use Rattle.fraction_free.specs.declared.loaded.LoadedRow.{LoadedRow}
-use Rattle.fraction_free.specs.Tableau.{loaded_at}
+use Rattle.fraction_free.specs.Dictionary.{loaded_at}
 use Rattle.decider.specs.Standing.{HasRow}
 
 pub same_int : (x y : ℤ) → int_eq x y ≡ true → x ≡ y

@@ -9,8 +9,8 @@ use Rattle.criteria_model.specs.declared.pairs.Answer.{Answer}
 use Rattle.criteria_model.specs.declared.pairs.Side.{Side}
 use Rattle.criteria_model.specs.declared.pairs.Side.TheVariants.{Left, Right, Equal}
 use Rattle.fraction_free.specs.declared.loaded.LoadedRow.{LoadedRow}
-use Rattle.fraction_free.specs.Tableau.{Tableau, IsDictionary, loaded_at, no_row}
-use Rattle.fraction_free.specs.Changes.{empty_tableau, next_count}
+use Rattle.fraction_free.specs.Dictionary.{DictionaryView, IsDictionary, loaded_at, no_row}
+use Rattle.fraction_free.specs.Changes.{empty_dictionary, next_count}
 use Rattle.criteria_model.specs.Worth.{increments}
 use Rattle.decider.specs.Standing.{rows_of, rows_of_answers, BeginsAt, StandsFor, HasRoom, KeepsRoom, RisesAtMost, BringsUp}
 
@@ -123,13 +123,13 @@ held_more levels answers loaded row held count answer lt g e ec b so =
     }
 
 -- it stands for no other number of answers
-pub none_fewer : (levels : List ℕ) (answers : List Answer) (d : Tableau) (row held : ℕ) → row < length d.loaded → HeldSoFar levels answers d.loaded row held
+pub none_fewer : (levels : List ℕ) (answers : List Answer) (d : DictionaryView) (row held : ℕ) → row < length d.loaded → HeldSoFar levels answers d.loaded row held
     → (k : ℕ) → k ≤ held → StandsFor levels (take k answers) d → ⊥
 none_fewer levels answers d row held lt so k le stands =
     let len : length d.loaded ≡ length (rows_of_answers levels (take k answers)) = ap length stands.loaded in
     omega (arith, len, so.row_is, rows_len-le levels answers k held le)
 
-pub none_other : (levels : List ℕ) (answers : List Answer) (d : Tableau) (row held : ℕ) (answer : Answer) → held < length answers → get_or answers held answer ≡ answer → row < length d.loaded → HeldSoFar levels answers d.loaded row held
+pub none_other : (levels : List ℕ) (answers : List Answer) (d : DictionaryView) (row held : ℕ) (answer : Answer) → held < length answers → get_or answers held answer ≡ answer → row < length d.loaded → HeldSoFar levels answers d.loaded row held
     → (BeginsAt d.loaded (rows_of levels answer.pair answer.side) row → ⊥)
     → (k : ℕ) → k ≤ length answers → StandsFor levels (take k answers) d → ⊥
 none_other levels answers d row held answer within e lt so differs k le stands = from (cases_Bool (nat_lt held k))
@@ -185,7 +185,7 @@ rows_len-lt levels (x ∷ answers) (suc i) (suc j) lt le =
     omega (arith, length-append (rows_of levels x.pair x.side) (rows_of_answers levels (take i answers)), length-append (rows_of levels x.pair x.side) (rows_of_answers levels (take j answers)), rest)
 
 -- a dictionary stands for one number of answers at most
-pub one_standing : (levels : List ℕ) (answers : List Answer) (d : Tableau) (i j : ℕ) → i ≤ length answers → j ≤ length answers → StandsFor levels (take i answers) d → StandsFor levels (take j answers) d → i ≡ j
+pub one_standing : (levels : List ℕ) (answers : List Answer) (d : DictionaryView) (i j : ℕ) → i ≤ length answers → j ≤ length answers → StandsFor levels (take i answers) d → StandsFor levels (take j answers) d → i ≡ j
 one_standing levels answers d i j li lj si sj = from (cases_Bool (nat_lt i j)) (cases_Bool (nat_lt j i))
   where
     same : length (rows_of_answers levels (take i answers)) ≡ length (rows_of_answers levels (take j answers))
@@ -199,14 +199,14 @@ one_standing levels answers d i j li lj si sj = from (cases_Bool (nat_lt i j)) (
 -- ---- bringing a dictionary up
 
 -- the state where the rows that are lacking begin to be added
-pub record Begun (levels : List ℕ) (answers : List Answer) (old start : Tableau) (held : ℕ) : Type 0 where
+pub record Begun (levels : List ℕ) (answers : List Answer) (old start : DictionaryView) (held : ℕ) : Type 0 where
   pub most : held ≤ length answers
   pub stands : StandsFor levels (take held answers) start
   pub room : KeepsRoom old start
   pub warm : (k : ℕ) → k ≤ length answers → StandsFor levels (take k answers) old → (k ≡ held) × (start.loads ≡ old.loads) × (start.added ≡ old.added)
   pub cold : ((k : ℕ) → k ≤ length answers → ¬ StandsFor levels (take k answers) old) → (held ≡ 0) × (start.loads ≡ next_count old.loads) × (start.added ≡ old.added)
 
-pub begun_warm : (levels : List ℕ) (answers : List Answer) (old : Tableau) (held : ℕ) → held ≤ length answers → StandsFor levels (take held answers) old → Begun levels answers old old held
+pub begun_warm : (levels : List ℕ) (answers : List Answer) (old : DictionaryView) (held : ℕ) → held ≤ length answers → StandsFor levels (take held answers) old → Begun levels answers old old held
 begun_warm levels answers old held le stands = record {
   most = le;
   stands = stands;
@@ -215,9 +215,9 @@ begun_warm levels answers old held le stands = record {
   cold = λ none. absurd (none held le stands);
 }
 
-pub begun_cold : (levels : List ℕ) (answers : List Answer) (old : Tableau) (columns : ℕ) → columns ≡ increments levels
+pub begun_cold : (levels : List ℕ) (answers : List Answer) (old : DictionaryView) (columns : ℕ) → columns ≡ increments levels
     → ((k : ℕ) → k ≤ length answers → ¬ StandsFor levels (take k answers) old)
-    → Begun levels answers old (empty_tableau columns old.room_columns old.room_rows (next_count old.loads) old.added) 0
+    → Begun levels answers old (empty_dictionary columns old.room_columns old.room_rows (next_count old.loads) old.added) 0
 begun_cold levels answers old columns e none = record {
   most = omega arith;
   stands = record { columns = e; loaded = refl };
@@ -227,14 +227,14 @@ begun_cold levels answers old columns e none = record {
 }
 
 -- and while they are
-pub record BroughtSoFar (levels : List ℕ) (answers : List Answer) (start now : Tableau) (held at : ℕ) : Type 0 where
+pub record BroughtSoFar (levels : List ℕ) (answers : List Answer) (start now : DictionaryView) (held at : ℕ) : Type 0 where
   pub stands : StandsFor levels (take at answers) now
   pub room : KeepsRoom start now
   pub loads : now.loads ≡ start.loads
   pub added : RisesAtMost start.added now.added (2 * (at - held))
   pub dictionary : IsDictionary now
 
-pub brought_more : (levels : List ℕ) (answers : List Answer) (start now new : Tableau) (held at : ℕ) (answer : Answer) → held ≤ at → at < length answers → get_or answers at answer ≡ answer
+pub brought_more : (levels : List ℕ) (answers : List Answer) (start now new : DictionaryView) (held at : ℕ) (answer : Answer) → held ≤ at → at < length answers → get_or answers at answer ≡ answer
     → new.loaded ≡ now.loaded ++ rows_of levels answer.pair answer.side → new.columns ≡ now.columns → KeepsRoom now new → new.loads ≡ now.loads → RisesAtMost now.added new.added (length (rows_of levels answer.pair answer.side)) → IsDictionary new
     → BroughtSoFar levels answers start now held at → BroughtSoFar levels answers start new held (at + 1)
 brought_more levels answers start now new held at answer low lt e loaded columns room loads added is so = record {
@@ -251,12 +251,12 @@ brought_more levels answers start now new held at answer low lt e loaded columns
   dictionary = is;
 }
 
-pub brought_room : (levels : List ℕ) (answers : List Answer) (old start now : Tableau) (held at : ℕ) → at < length answers → HasRoom levels answers old → KeepsRoom old start
+pub brought_room : (levels : List ℕ) (answers : List Answer) (old start now : DictionaryView) (held at : ℕ) → at < length answers → HasRoom levels answers old → KeepsRoom old start
     → BroughtSoFar levels answers start now held at → length now.loaded + 2 ≤ now.room_rows
 brought_room levels answers old start now held at lt room kept so =
     omega (arith, ap length so.stands.loaded, rows_len-most levels answers at, room.rows, kept.rows, so.room.rows)
 
-pub brought_up : (levels : List ℕ) (answers : List Answer) (old start now : Tableau) (held at : ℕ) → length answers ≤ at → at ≤ length answers → Begun levels answers old start held → BroughtSoFar levels answers start now held at
+pub brought_up : (levels : List ℕ) (answers : List Answer) (old start now : DictionaryView) (held at : ℕ) → length answers ≤ at → at ≤ length answers → Begun levels answers old start held → BroughtSoFar levels answers start now held at
     → BringsUp levels answers 0 old now
 brought_up levels answers old start now held at ge le begun so =
     let whole : at ≡ length answers = omega arith in
@@ -267,16 +267,16 @@ brought_up levels answers old start now held at ge le begun so =
       cold = λ none. let w = begun.cold none in (so.loads ∙ w.1, record { low = let a = so.added.low in omega (arith, w.2); high = let a = so.added.high in omega (arith, w.0, w.2) });
     }
 
-pub begun_is_warm : (levels : List ℕ) (answers : List Answer) (old start : Tableau) (held h : ℕ) → start ≡ old → held ≡ h → h ≤ length answers → StandsFor levels (take h answers) old → Begun levels answers old start held
+pub begun_is_warm : (levels : List ℕ) (answers : List Answer) (old start : DictionaryView) (held h : ℕ) → start ≡ old → held ≡ h → h ≤ length answers → StandsFor levels (take h answers) old → Begun levels answers old start held
 begun_is_warm levels answers old start held h e f le stands =
-    subst (λ (n : ℕ). Begun levels answers old start n) (sym f) (subst (λ (t : Tableau). Begun levels answers old t h) (sym e) (begun_warm levels answers old h le stands))
+    subst (λ (n : ℕ). Begun levels answers old start n) (sym f) (subst (λ (t : DictionaryView). Begun levels answers old t h) (sym e) (begun_warm levels answers old h le stands))
 
-pub begun_is_cold : (levels : List ℕ) (answers : List Answer) (old start : Tableau) (held columns : ℕ) → start ≡ empty_tableau columns old.room_columns old.room_rows (next_count old.loads) old.added → held ≡ 0 → columns ≡ increments levels
+pub begun_is_cold : (levels : List ℕ) (answers : List Answer) (old start : DictionaryView) (held columns : ℕ) → start ≡ empty_dictionary columns old.room_columns old.room_rows (next_count old.loads) old.added → held ≡ 0 → columns ≡ increments levels
     → ((k : ℕ) → k ≤ length answers → ¬ StandsFor levels (take k answers) old) → Begun levels answers old start held
 begun_is_cold levels answers old start held columns e f g none =
-    subst (λ (n : ℕ). Begun levels answers old start n) (sym f) (subst (λ (t : Tableau). Begun levels answers old t 0) (sym e) (begun_cold levels answers old columns g none))
+    subst (λ (n : ℕ). Begun levels answers old start n) (sym f) (subst (λ (t : DictionaryView). Begun levels answers old t 0) (sym e) (begun_cold levels answers old columns g none))
 
-pub brought_none : (levels : List ℕ) (answers : List Answer) (old start : Tableau) (held : ℕ) → Begun levels answers old start held → IsDictionary start → BroughtSoFar levels answers start start held held
+pub brought_none : (levels : List ℕ) (answers : List Answer) (old start : DictionaryView) (held : ℕ) → Begun levels answers old start held → IsDictionary start → BroughtSoFar levels answers start start held held
 brought_none levels answers old start held begun is = record {
   stands = begun.stands;
   room = record { columns = refl; rows = refl };

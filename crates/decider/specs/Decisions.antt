@@ -6,7 +6,7 @@ use Rattle.criteria_model.specs.declared.pairs.Side.{Side}
 use Rattle.criteria_model.specs.Answers.{Opens, IsOpen, IsRanked}
 use Rattle.farkas_check.specs.declared.combination.Combination.{Combination}
 use Rattle.farkas_check.specs.Proof.{Proves}
-use Rattle.simplex.specs.Rows.{HasNoDivisor}
+use Rattle.simplex.specs.Rows.{IsCoprime}
 use Rattle.simplex.specs.Weights.{is_weight}
 use Rattle.decider.specs.declared.decision.Decision.{Decision}
 use Rattle.decider.specs.declared.decision.Decision.TheVariants.{Undecided, Implied}
@@ -17,9 +17,9 @@ numbers_of combination = combination.scale ∷ combination.increments ++ map (λ
 
 -- two vectors that open the pair, each without a common divisor; or a combination without one, its scale below 2^96, which proves the verdict, so that this is the pair's ranking
 abbrev pub IsDecision : List ℕ → List Answer → Pair → Decision → Type 0
-IsDecision levels answers pair (Undecided plus minus) = Opens levels answers pair plus minus × IsOpen levels answers pair × HasNoDivisor plus × HasNoDivisor minus
+IsDecision levels answers pair (Undecided plus minus) = Opens levels answers pair plus minus × IsOpen levels answers pair × IsCoprime plus × IsCoprime minus
 IsDecision levels answers pair (Implied verdict combination) =
-    Proves levels answers combination pair verdict × IsRanked levels answers pair verdict × HasNoDivisor (numbers_of combination) × (unsigned_abs combination.scale < 2 ^ 96)
+    Proves levels answers combination pair verdict × IsRanked levels answers pair verdict × IsCoprime (numbers_of combination) × (unsigned_abs combination.scale < 2 ^ 96)
 
 -- it leaves the pair open
 abbrev pub IsUndecided : Decision → Type 0

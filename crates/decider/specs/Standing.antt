@@ -8,7 +8,7 @@ use Rattle.criteria_model.specs.declared.pairs.Side.TheVariants.{Left, Right, Eq
 use Rattle.criteria_model.specs.Worth.{increments}
 use Rattle.criteria_model.specs.Answers.{gain}
 use Rattle.fraction_free.specs.declared.loaded.LoadedRow.{LoadedRow}
-use Rattle.fraction_free.specs.Tableau.{Tableau, loaded_at}
+use Rattle.fraction_free.specs.Dictionary.{DictionaryView, loaded_at}
 use Rattle.fraction_free.specs.Changes.{next_count}
 
 -- the rows of a ranking: a strict one for left and right, and two that are not for equal
@@ -32,17 +32,17 @@ BeginsAt loaded [] from = Unit {0}
 BeginsAt loaded (row ∷ rows) from = HasRow loaded from row × BeginsAt loaded rows (from + 1)
 
 -- the dictionary has the model's increments as columns, and the answers' rows
-pub record StandsFor (levels : List ℕ) (answers : List Answer) (d : Tableau) : Type 0 where
+pub record StandsFor (levels : List ℕ) (answers : List Answer) (d : DictionaryView) : Type 0 where
   pub columns : d.columns ≡ increments levels
   pub loaded : d.loaded ≡ rows_of_answers levels answers
 
 -- room for the model's increments, for two rows an answer, and for two more
-pub record HasRoom (levels : List ℕ) (answers : List Answer) (d : Tableau) : Type 0 where
+pub record HasRoom (levels : List ℕ) (answers : List Answer) (d : DictionaryView) : Type 0 where
   pub columns : increments levels ≤ d.room_columns
   pub rows : 2 * length answers + 2 ≤ d.room_rows
 
 -- the rooms are as before
-pub record KeepsRoom (old new : Tableau) : Type 0 where
+pub record KeepsRoom (old new : DictionaryView) : Type 0 where
   pub columns : new.room_columns ≡ old.room_columns
   pub rows : new.room_rows ≡ old.room_rows
 
@@ -52,7 +52,7 @@ pub record RisesAtMost (before now most : ℕ) : Type 0 where
   pub high : now ≤ before + most
 
 -- afterwards the dictionary stands for the answers: loaded anew only where it stood for none of their prefixes, with at most two rows for each answer that it lacked, and `more` besides
-pub record BringsUp (levels : List ℕ) (answers : List Answer) (more : ℕ) (old new : Tableau) : Type 0 where
+pub record BringsUp (levels : List ℕ) (answers : List Answer) (more : ℕ) (old new : DictionaryView) : Type 0 where
   pub stands : StandsFor levels answers new
   pub room : KeepsRoom old new
   pub warm : (held : ℕ) → held ≤ length answers → StandsFor levels (take held answers) old

@@ -5,8 +5,8 @@ use Rattle.criteria_model.specs.declared.pairs.Side.{Side}
 use Rattle.criteria_model.specs.declared.pairs.Side.TheVariants.{Left, Right, Equal}
 use Rattle.criteria_model.specs.Answers.{Ranks}
 use Rattle.fraction_free.specs.declared.loaded.LoadedRow.{LoadedRow}
-use Rattle.fraction_free.specs.Tableau.{Tableau}
-use Rattle.simplex.specs.Rows.{MeetsRows, HasNoDivisor}
+use Rattle.fraction_free.specs.Dictionary.{DictionaryView}
+use Rattle.simplex.specs.Rows.{MeetsRows, IsCoprime}
 use Rattle.decider.specs.Standing.{KeepsRoom, RisesAtMost}
 
 -- the ranking that is tried against one that a vector gives
@@ -21,11 +21,11 @@ pub record OpensRows (levels : List ℕ) (columns : ℕ) (loaded : List LoadedRo
   pub minus_meets : MeetsRows columns loaded minus
   pub more : Ranks levels plus pair Left
   pub less : Ranks levels minus pair Right
-  pub plus_reduced : HasNoDivisor plus
-  pub minus_reduced : HasNoDivisor minus
+  pub plus_reduced : IsCoprime plus
+  pub minus_reduced : IsCoprime minus
 
 -- the same rows as before, and no load; at most `most` rows were added
-pub record IsTried (old new : Tableau) (most : ℕ) : Type 0 where
+pub record IsTried (old new : DictionaryView) (most : ℕ) : Type 0 where
   pub columns : new.columns ≡ old.columns
   pub loaded : new.loaded ≡ old.loaded
   pub room : KeepsRoom old new

@@ -1,7 +1,7 @@
 //! The combination that a clash gives.
 ghost use Rattle.std.specs.Prelude.{◌≡◌, ◌^◌, ◌<◌, ◌≤◌, ◌∷◌, ◌++◌, length, map, All, pos, ◌≤ℤ◌, unsigned_abs};
 ghost use Rattle.std.specs.Int.{◌∣◌};
-ghost use Rattle.simplex.specs.Rows.{HasNoDivisor};
+ghost use Rattle.simplex.specs.Rows.{IsCoprime};
 ghost use Rattle.simplex.specs.Weights.{AreRowWeights};
 ghost use Rattle.decider.specs.Decisions.{numbers_of};
 ghost use Rattle.decider.specs.Combining.{rows_in, AreFrom, TakesRow, TakesRanking, CitesRows, IsGreatestDivisor, times_cites, EndsWithTried, Combines};
@@ -20,7 +20,7 @@ pub fn combination_of(answers: &Answers, clash: &Clash) -> Combination
     requires tried { EndsWithTried answers.now.answers clash.now.rows }
     requires small { rows_in answers.now.answers ≤ 65536 }
     ensures combines { Combines answers.now.answers clash.now result }
-    ensures reduced { HasNoDivisor (numbers_of result) }
+    ensures reduced { IsCoprime (numbers_of result) }
     ensures scale { unsigned_abs result.scale < 2 ^ 96 }
 {
     let weighted = clash.rows.as_slice();

@@ -4,8 +4,8 @@ ghost use Rattle.criteria_model.specs.declared.pairs.Side.TheVariants.{Left, Equ
 ghost use Rattle.criteria_model.specs.Worth.{increments};
 ghost use Rattle.criteria_model.specs.Pairs.{IsFit};
 ghost use Rattle.criteria_model.specs.Answers.{Ranks, MeetsAll};
-ghost use Rattle.fraction_free.specs.Tableau.{IsDictionary};
-ghost use Rattle.simplex.specs.Rows.{MeetsRows, HasNoDivisor};
+ghost use Rattle.fraction_free.specs.Dictionary.{IsDictionary};
+ghost use Rattle.simplex.specs.Rows.{MeetsRows, IsCoprime};
 ghost use Rattle.decider.specs.Standing.{rows_of, HasRoom, BringsUp};
 ghost use Rattle.decider.specs.Decisions.{IsDecision, IsExact, HasFewWeights};
 ghost use Rattle.decider.specs.Trying.{against, OpensRows, IsTried};
@@ -97,7 +97,7 @@ fn opening(
     requires point { MeetsRows work.old.columns work.old.loaded point.now }
     requires ranked { Ranks model.now.levels point.now pair.now verdict }
     requires other { MeetsRows work.old.columns (work.old.loaded ++ rows_of model.now.levels pair.now (against verdict)) other.now }
-    requires reduced { HasNoDivisor other.now }
+    requires reduced { IsCoprime other.now }
     requires mirrored { verdict ≡ Equal → (vector : List ℤ) × MeetsRows work.old.columns (work.old.loaded ++ rows_of model.now.levels pair.now Left) vector }
     requires dictionary { IsDictionary work.old }
     ensures opens { OpensRows model.now.levels work.old.columns work.old.loaded pair.now result.0 result.1 }

@@ -2,8 +2,8 @@
 ghost use Rattle.std.specs.Prelude.{[], ◌∷◌, ◌++◌, All};
 ghost use Rattle.criteria_model.specs.Pairs.{IsFit};
 ghost use Rattle.criteria_model.specs.Answers.{MeetsAll, Opens};
-ghost use Rattle.fraction_free.specs.Tableau.{IsDictionary};
-ghost use Rattle.simplex.specs.Rows.{HasNoDivisor};
+ghost use Rattle.fraction_free.specs.Dictionary.{IsDictionary};
+ghost use Rattle.simplex.specs.Rows.{IsCoprime};
 ghost use Rattle.decider.specs.Standing.{HasRoom, BringsUp};
 
 use crate::standing::bring_up;
@@ -30,7 +30,7 @@ pub fn point_with(
     requires opens { Opens model.now.levels answers.now.answers pair.now plus.now minus.now }
     requires room { HasRoom model.now.levels answers.now.answers work.old }
     ensures meets { MeetsAll model.now.levels (answers.now.answers ++ (record { pair = pair.now; side = side }) ∷ []) result }
-    ensures reduced { HasNoDivisor result }
+    ensures reduced { IsCoprime result }
     ensures up { BringsUp model.now.levels answers.now.answers 2 work.old work.new }
     ensures dictionary { IsDictionary work.new }
 {

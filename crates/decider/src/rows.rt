@@ -3,7 +3,7 @@ ghost use Rattle.std.specs.Prelude.{◌≡◌, ◌↔◌, ℕ, ◌+◌, ◌≤�
 ghost use Rattle.criteria_model.specs.declared.pairs.Pair.{Pair};
 ghost use Rattle.criteria_model.specs.Worth.{increments};
 ghost use Rattle.criteria_model.specs.Pairs.{IsFit};
-ghost use Rattle.fraction_free.specs.Tableau.{IsDictionary};
+ghost use Rattle.fraction_free.specs.Dictionary.{IsDictionary};
 ghost use Rattle.decider.specs.Standing.{rows_of, HasRow, BeginsAt, KeepsRoom, RisesAtMost};
 
 use criteria_model::{Model, Pair, Row, Side};

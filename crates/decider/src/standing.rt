@@ -2,7 +2,7 @@
 ghost use Rattle.std.specs.Prelude.{ℕ, ◌≡◌, ◌≤◌, ◌+◌, ◌*◌, length, take, All, MatchOption};
 ghost use Rattle.criteria_model.specs.Worth.{increments};
 ghost use Rattle.criteria_model.specs.Pairs.{IsFit};
-ghost use Rattle.fraction_free.specs.Tableau.{IsDictionary};
+ghost use Rattle.fraction_free.specs.Dictionary.{IsDictionary};
 ghost use Rattle.decider.specs.Standing.{StandsFor, HasRoom, BringsUp};
 
 use crate::rows::{add_rows, has_rows, row_count};

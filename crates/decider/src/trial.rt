@@ -2,8 +2,8 @@
 ghost use Rattle.std.specs.Prelude.{ℤ, ◌≡◌, ◌+◌, ◌≤◌, List, ◌++◌, length};
 ghost use Rattle.criteria_model.specs.Worth.{increments};
 ghost use Rattle.criteria_model.specs.Pairs.{IsFit};
-ghost use Rattle.fraction_free.specs.Tableau.{IsDictionary};
-ghost use Rattle.simplex.specs.Rows.{MeetsRows, HasNoDivisor};
+ghost use Rattle.fraction_free.specs.Dictionary.{IsDictionary};
+ghost use Rattle.simplex.specs.Rows.{MeetsRows, IsCoprime};
 ghost use Rattle.simplex.specs.Results.{IsFound};
 ghost use Rattle.decider.specs.Standing.{rows_of, KeepsRoom, RisesAtMost};
 
@@ -41,7 +41,7 @@ pub fn point_for(model: &Model, pair: &Pair, side: Side, work: &mut Dictionary) 
     requires room { length work.old.loaded + 2 ≤ work.old.room_rows }
     requires some { (vector : List ℤ) × MeetsRows work.old.columns (work.old.loaded ++ rows_of model.now.levels pair.now side) vector }
     ensures meets { MeetsRows work.old.columns (work.old.loaded ++ rows_of model.now.levels pair.now side) result }
-    ensures reduced { HasNoDivisor result }
+    ensures reduced { IsCoprime result }
     ensures loaded { work.new.loaded ≡ work.old.loaded }
     ensures columns { work.new.columns ≡ work.old.columns }
     ensures room { KeepsRoom work.old work.new }

@@ -11,8 +11,8 @@ use Rattle.minors.proofs.Ring.{cancel, mul-add, mul_swap, mul_zero, zero_mul, mu
 use Rattle.criteria_model.specs.Rows.{dot}
 use Rattle.fraction_free.specs.declared.loaded.LoadedRow.{LoadedRow}
 use Rattle.fraction_free.specs.Arrangement.{IsArrangement, Arranged}
-use Rattle.fraction_free.specs.Tableau.{IsLoadable, HasSlacks, loaded_at, no_row, slack_of, vector_of}
-use Rattle.fraction_free.specs.Representation.{table_row, square_of, IsMinorTableau, IsKept}
+use Rattle.fraction_free.specs.Dictionary.{IsLoadable, HasSlacks, loaded_at, no_row, slack_of, vector_of}
+use Rattle.fraction_free.specs.Representation.{table_row, square_of, AreMinors, IsRepresentation}
 use Rattle.fraction_free.proofs.Values.{same_dot}
 use Rattle.fraction_free.proofs.AddRow.{BeginsWith, table_row_same, square_same, moved}
 use Rattle.fraction_free.proofs.PivotKept.{Equations, equations_of, satisfies_from}
@@ -59,7 +59,7 @@ same_columns m order lines new_order new_lines first second h =
     ∙ take-set-le (m + 1) order (m + 1 + first) (get_or order (m + 1 + second) 0) (omega arith)
 
 pub swapped_minors : (m : ℕ) (l : List LoadedRow) (s : ℤ) (order : List ℕ) (lines : List (List ℤ)) (new_order : List ℕ) (new_lines : List (List ℤ)) (first second : ℕ)
-    → IsMinorTableau m l s order lines → AreRowsSwapped m order lines new_order new_lines first second → IsArrangement new_order → IsMinorTableau m l s new_order new_lines
+    → AreMinors m l s order lines → AreRowsSwapped m order lines new_order new_lines first second → IsArrangement new_order → AreMinors m l s new_order new_lines
 swapped_minors m l s order lines new_order new_lines first second t h arranged = record {
   columns_some = t.columns_some;
   columns_most = t.columns_most;
@@ -93,8 +93,8 @@ begins_with_take l k h = record {
   same = λ row below. sym (get_or-take k l row no_row (omega (arith, length-take-le k l h)));
 }
 
-pub popped_minors : (m : ℕ) (l : List LoadedRow) (s : ℤ) (order : List ℕ) (lines : List (List ℤ)) (k : ℕ) → IsMinorTableau m l s order lines → length l ≡ k + 1
-    → IsArrangement (take (m + 1 + k) order) → IsMinorTableau m (take k l) s (take (m + 1 + k) order) (take k lines)
+pub popped_minors : (m : ℕ) (l : List LoadedRow) (s : ℤ) (order : List ℕ) (lines : List (List ℤ)) (k : ℕ) → AreMinors m l s order lines → length l ≡ k + 1
+    → IsArrangement (take (m + 1 + k) order) → AreMinors m (take k l) s (take (m + 1 + k) order) (take k lines)
 popped_minors m l s order lines k t len arranged = record {
   columns_some = t.columns_some;
   columns_most = t.columns_most;
@@ -149,7 +149,7 @@ slack_scaled m row s x y h =
     ∙ sym (mul-sub s (dot row.coefficients (vector_of m x)) (row.least *ℤ x 0))
 
 -- what satisfies the shorter dictionary, times the scale and with a value for the last slack, satisfies the longer one
-pub popped_solutions : (m : ℕ) (l : List LoadedRow) (s : ℤ) (order : List ℕ) (lines : List (List ℤ)) (k : ℕ) (x : ℕ → ℤ) → IsMinorTableau m l s order lines → length l ≡ k + 1
+pub popped_solutions : (m : ℕ) (l : List LoadedRow) (s : ℤ) (order : List ℕ) (lines : List (List ℤ)) (k : ℕ) (x : ℕ → ℤ) → AreMinors m l s order lines → length l ≡ k + 1
     → get_or order (m + 1 + k) 0 ≡ m + 1 + k → ((y : ℕ → ℤ) → Equations m (length l) s order lines y → HasSlacks m l y)
     → Equations m k s (take (m + 1 + k) order) (take k lines) x → HasSlacks m (take k l) x
 popped_solutions m l s order lines k x t len last solutions h = record { each = λ row below. slack row (omega (arith, length-take-le k l (omega arith))) }
@@ -206,10 +206,10 @@ popped_solutions m l s order lines k x t len last solutions h = record { each = 
         ∙ ap (λ (r : LoadedRow). s *ℤ slack_of m r x) (sym (get_or-take k l row no_row below)))
 
 pub dropped_kept : (m : ℕ) (l new_l : List LoadedRow) (s : ℤ) (places new_places : Arranged) (lines new_lines mid_lines : List (List ℤ)) (mid_order : List ℕ) (a b c d e f new_c new_d k first : ℕ)
-    → IsKept m l s places lines a b c d e f → length l ≡ k + 1
+    → IsRepresentation m l s places lines a b c d e f → length l ≡ k + 1
     → AreRowsSwapped m places.order lines mid_order mid_lines first k → IsArrangement mid_order → get_or mid_order (m + 1 + k) 0 ≡ m + 1 + k
     → new_l ≡ take k l → new_lines ≡ take k mid_lines → new_places.order ≡ take (m + 1 + k) mid_order → new_places.room ≡ places.room → IsArrangement new_places.order
-    → c ≤ new_c → d ≤ new_d → IsKept m new_l s new_places new_lines a b new_c new_d e f
+    → c ≤ new_c → d ≤ new_d → IsRepresentation m new_l s new_places new_lines a b new_c new_d e f
 dropped_kept m l new_l s places new_places lines new_lines mid_lines mid_order a b c d e f new_c new_d k first kept len swapped mid_arranged last l_is lines_is order_is room_is arranged c_room d_room =
     let t = kept.minors in
     let mid = swapped_minors m l s places.order lines mid_order mid_lines first k t swapped mid_arranged in
@@ -247,7 +247,7 @@ dot_none x (c ∷ f) (v ∷ vs) h = none (c *ℤ x v) (dot_of f (map x vs)) (pro
     product (inl e) = ap (λ (n : ℤ). n *ℤ x v) e ∙ zero_mul (x v)
     product (inr e) = ap (λ (n : ℤ). c *ℤ n) e ∙ mul_zero c
 
-pub slack_has_entry : (m : ℕ) (l : List LoadedRow) (s : ℤ) (order : List ℕ) (lines : List (List ℤ)) (column k : ℕ) → IsMinorTableau m l s order lines → length l ≡ k + 1 → column < m
+pub slack_has_entry : (m : ℕ) (l : List LoadedRow) (s : ℤ) (order : List ℕ) (lines : List (List ℤ)) (column k : ℕ) → AreMinors m l s order lines → length l ≡ k + 1 → column < m
     → get_or order column 0 ≡ m + 1 + k → ((y : ℕ → ℤ) → Equations m (length l) s order lines y → HasSlacks m l y)
     → ((row : ℕ) → row < length l → get_or (get_or lines row []) column (pos 0) ≡ pos 0) → ⊥
 slack_has_entry m l s order lines column k t len below is solutions zeros =
@@ -286,7 +286,7 @@ slack_has_entry m l s order lines column k t len below is solutions zeros =
         ∙ sym (dot_none x (get_or lines row []) (take (m + 1) order) (factor row inside)))
 
 -- so the first row with an entry that isn't 0 is there
-pub found_below : (m : ℕ) (l : List LoadedRow) (s : ℤ) (places : Arranged) (lines given : List (List ℤ)) (a b c d e f column row last : ℕ) → IsKept m l s places lines a b c d e f → 0 < length l → last ≡ m + length l
+pub found_below : (m : ℕ) (l : List LoadedRow) (s : ℤ) (places : Arranged) (lines given : List (List ℤ)) (a b c d e f column row last : ℕ) → IsRepresentation m l s places lines a b c d e f → 0 < length l → last ≡ m + length l
     → column < m → get_or places.order column 0 ≡ last → given ≡ lines → ((r : ℕ) → r < row → get_or (get_or given r []) column (pos 0) ≡ pos 0) → row < length l
 found_below m l s places lines given a b c d e f column row last kept some last_is below value same before =
     let t = kept.minors in

@@ -10,8 +10,8 @@ use Rattle.minors.specs.Combination.{IsScale}
 use Rattle.minors.proofs.Laws.{scale_of_identity}
 use Rattle.fraction_free.specs.declared.loaded.LoadedRow.{LoadedRow}
 use Rattle.fraction_free.specs.Arrangement.{IsArrangement, Arranged}
-use Rattle.fraction_free.specs.Changes.{empty_tableau}
-use Rattle.fraction_free.specs.Representation.{unit, table_row, square_of, tableau_of, IsMinorTableau, IsKept}
+use Rattle.fraction_free.specs.Changes.{empty_dictionary}
+use Rattle.fraction_free.specs.Representation.{unit, table_row, square_of, view_of, AreMinors, IsRepresentation}
 use Rattle.fraction_free.proofs.Table.{unit_is, length-square, square_at, table_row-increment}
 
 abbrev pub first_order : ℕ → List ℕ
@@ -43,7 +43,7 @@ empty_scale m =
     scale_of_identity (square_of m [] (first_order m))
     (λ p below. subst (λ n. IsUnit n p (get_or (square_of m [] (first_order m)) p [])) (sym len) (subst (IsUnit (m + 1) p) (sym (first_square m p (omega arith))) (unit_is (m + 1) p)))
 
-pub empty_minors : (m : ℕ) → 1 ≤ m → m ≤ 24 → IsArrangement (first_order m) → IsMinorTableau m [] (pos 1) (first_order m) []
+pub empty_minors : (m : ℕ) → 1 ≤ m → m ≤ 24 → IsArrangement (first_order m) → AreMinors m [] (pos 1) (first_order m) []
 empty_minors m some most arranged = record {
   columns_some = some;
   columns_most = most;
@@ -59,7 +59,7 @@ empty_minors m some most arranged = record {
 
 pub empty_kept : (m : ℕ) (l : List LoadedRow) (s : ℤ) (places : Arranged) (lines : List (List ℤ)) (a b c d e f : ℕ) → 1 ≤ m → l ≡ [] → s ≡ pos 1 → lines ≡ []
     → places.order ≡ first_order m → IsArrangement places.order → m ≤ a → a ≤ 24 → b ≤ 65536 → a + 1 + b ≤ places.room → b ≤ c → b ≤ d
-    → IsKept m l s places lines a b c d e f
+    → IsRepresentation m l s places lines a b c d e f
 empty_kept m l s places lines a b c d e f some no_rows one no_lines order arranged columns_room columns_most rows_most places_room lines_room loaded_room = record {
   minors = rw (no_rows, one, order, no_lines) (empty_minors m some (omega arith) (subst IsArrangement order arranged));
   solutions = λ x h. record { each = λ row below. absurd (omega (arith, ap length no_rows)) };
@@ -73,6 +73,6 @@ empty_kept m l s places lines a b c d e f some no_rows one no_lines order arrang
 }
 
 pub empty_view : (m : ℕ) (l : List LoadedRow) (s : ℤ) (order : List ℕ) (lines : List (List ℤ)) (a b e f : ℕ) → l ≡ [] → s ≡ pos 1 → lines ≡ [] → order ≡ first_order m
-    → tableau_of m l s order lines a b e f ≡ empty_tableau m a b e f
+    → view_of m l s order lines a b e f ≡ empty_dictionary m a b e f
 empty_view m l s order lines a b e f no_rows one no_lines is =
     rw (no_rows, one, no_lines, is, take_at (range_with_len 1 m) (0 ∷ []) m (length-range_with_len 1 m), drop_all (m + 1) (first_order m) (omega (arith, length-first m))) refl

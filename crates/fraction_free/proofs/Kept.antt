@@ -9,8 +9,8 @@ use Rattle.minors.proofs.Laws.{factor_is_bounded, minor_is_bounded, scale_is_bou
 use Rattle.criteria_model.specs.Rows.{dot}
 use Rattle.fraction_free.specs.declared.loaded.LoadedRow.{LoadedRow}
 use Rattle.fraction_free.specs.Arrangement.{IsArrangement, Arranged}
-use Rattle.fraction_free.specs.Tableau.{IsDictionary, HasSlacks, Satisfies, most_size}
-use Rattle.fraction_free.specs.Representation.{table_row, square_of, tableau_of, IsMinorTableau, IsKept, CanExchange}
+use Rattle.fraction_free.specs.Dictionary.{IsDictionary, HasSlacks, Satisfies, most_size}
+use Rattle.fraction_free.specs.Representation.{table_row, square_of, view_of, AreMinors, IsRepresentation, CanExchange}
 use Rattle.fraction_free.proofs.Table.{square_small, length-square, table_row_small}
 use Rattle.fraction_free.proofs.Values.{same_dot, combination_value, variable_value}
 
@@ -24,7 +24,7 @@ whole_order m order below constant =
 
 -- the loaded rows' slacks satisfy the dictionary
 pub satisfied : (m : ℕ) (l : List LoadedRow) (s : ℤ) (order : List ℕ) (lines : List (List ℤ)) (a b c d : ℕ) (x : ℕ → ℤ)
-    → IsMinorTableau m l s order lines → HasSlacks m l x → Satisfies (tableau_of m l s order lines a b c d) x
+    → AreMinors m l s order lines → HasSlacks m l x → Satisfies (view_of m l s order lines a b c d) x
 satisfied m l s order lines a b c d x t h = record {
   each = λ row below.
       let inside : row < length l = omega (arith, length-drop (m + 1) order, t.order_len) in
@@ -37,14 +37,14 @@ satisfied m l s order lines a b c d x t h = record {
       ∙ ap (λ vs. dot (get_or lines row []) (map x vs)) (sym (columns_and_constant m order (omega (arith, t.order_len)) t.constant));
 }
 
-pub small_scale : (m : ℕ) (l : List LoadedRow) (s : ℤ) (order : List ℕ) (lines : List (List ℤ)) → IsMinorTableau m l s order lines → unsigned_abs s ≤ most_size
+pub small_scale : (m : ℕ) (l : List LoadedRow) (s : ℤ) (order : List ℕ) (lines : List (List ℤ)) → AreMinors m l s order lines → unsigned_abs s ≤ most_size
 small_scale m l s order lines t =
     let len : length (square_of m l order) ≡ m + 1 = length-square m l order (omega (arith, t.order_len)) in
     let bound = scale_is_bounded s (square_of m l order) 25 t.scale_is (omega arith) (square_small m l order t.columns_most t.order_len t.variables t.rows) in
     let most = bound_is_small.0 (length (square_of m l order)) (omega (arith, t.columns_most)) in
     omega arith
 
-pub small_number : (m : ℕ) (l : List LoadedRow) (s : ℤ) (order : List ℕ) (lines : List (List ℤ)) (row column : ℕ) → IsMinorTableau m l s order lines → row < length l
+pub small_number : (m : ℕ) (l : List LoadedRow) (s : ℤ) (order : List ℕ) (lines : List (List ℤ)) (row column : ℕ) → AreMinors m l s order lines → row < length l
     → unsigned_abs (get_or (get_or lines row []) column (pos 0)) ≤ most_size
 small_number m l s order lines row column t inside =
     let len : length (square_of m l order) ≡ m + 1 = length-square m l order (omega (arith, t.order_len)) in
@@ -54,12 +54,12 @@ small_number m l s order lines row column t inside =
     let most = bound_is_small.0 (length (square_of m l order)) (omega (arith, t.columns_most)) in
     omega arith
 
-pub line_len : (m : ℕ) (l : List LoadedRow) (s : ℤ) (order : List ℕ) (lines : List (List ℤ)) (row : ℕ) → IsMinorTableau m l s order lines → row < length l
+pub line_len : (m : ℕ) (l : List LoadedRow) (s : ℤ) (order : List ℕ) (lines : List (List ℤ)) (row : ℕ) → AreMinors m l s order lines → row < length l
     → length (get_or lines row []) ≡ m + 1
 line_len m l s order lines row t inside = (t.lines_are row inside).len ∙ length-square m l order (omega (arith, t.order_len))
 
 pub dictionary_from_kept : (m : ℕ) (l : List LoadedRow) (s : ℤ) (places : Arranged) (lines : List (List ℤ)) (a b c d e f : ℕ)
-    → IsKept m l s places lines a b c d e f → IsDictionary (tableau_of m l s places.order lines a b e f)
+    → IsRepresentation m l s places lines a b c d e f → IsDictionary (view_of m l s places.order lines a b e f)
 dictionary_from_kept m l s places lines a b c d e f k =
     let t = k.minors in
     let order = places.order in
@@ -84,7 +84,7 @@ dictionary_from_kept m l s places lines a b c d e f k =
 pub most_fits : most_size < 2 ^ 89
 most_fits = bound_is_small.1
 
-pub number_fits : (m : ℕ) (l : List LoadedRow) (s : ℤ) (order : List ℕ) (lines : List (List ℤ)) (row column : ℕ) → IsMinorTableau m l s order lines
+pub number_fits : (m : ℕ) (l : List LoadedRow) (s : ℤ) (order : List ℕ) (lines : List (List ℤ)) (row column : ℕ) → AreMinors m l s order lines
     → unsigned_abs (get_or (get_or lines row []) column (pos 0)) < 2 ^ 89
 number_fits m l s order lines row column t =
     elim (cases_lt row (length l)) [
@@ -92,7 +92,7 @@ number_fits m l s order lines row column t =
       | inr past ↦ subst (λ (n : ℤ). unsigned_abs n < 2 ^ 89) (sym (ap (λ (line : List ℤ). get_or line column (pos 0)) (get_or_past lines row [] (omega (arith, t.lines_len))))) (lit< tt)
     ]
 
-pub scale_fits : (m : ℕ) (l : List LoadedRow) (s : ℤ) (order : List ℕ) (lines : List (List ℤ)) → IsMinorTableau m l s order lines → unsigned_abs s < 2 ^ 89
+pub scale_fits : (m : ℕ) (l : List LoadedRow) (s : ℤ) (order : List ℕ) (lines : List (List ℤ)) → AreMinors m l s order lines → unsigned_abs s < 2 ^ 89
 scale_fits m l s order lines t = omega (arith, small_scale m l s order lines t, most_fits)
 
 -- what holds of each element, and of one that is written, holds of each afterwards
@@ -104,7 +104,7 @@ All-set P xs k y all here i d below =
     ]
 
 -- each difference of products that a pivot divides has an exact quotient, and that is a minor
-pub can_exchange : (m : ℕ) (l : List LoadedRow) (s : ℤ) (order : List ℕ) (lines : List (List ℤ)) (at column : ℕ) → IsMinorTableau m l s order lines → at < length l → column < m
+pub can_exchange : (m : ℕ) (l : List LoadedRow) (s : ℤ) (order : List ℕ) (lines : List (List ℤ)) (at column : ℕ) → AreMinors m l s order lines → at < length l → column < m
     → entry (get_or lines at []) column ≢ pos 0 → CanExchange s at column lines
 can_exchange m l s order lines at column t at_in below nonzero = record {
   positive = t.positive;
@@ -147,6 +147,6 @@ can_exchange m l s order lines at column t at_in below nonzero = record {
         record { quotient = q.0; exact = q.1; size = subst (λ n. n < 2 ^ 126) (sym q.2) (bounded row place inside place_in) }
 
 -- a line that was read
-pub read_len : (m : ℕ) (l : List LoadedRow) (s : ℤ) (order : List ℕ) (lines : List (List ℤ)) (row : ℕ) (line : List ℤ) → IsMinorTableau m l s order lines → row < length l
+pub read_len : (m : ℕ) (l : List LoadedRow) (s : ℤ) (order : List ℕ) (lines : List (List ℤ)) (row : ℕ) (line : List ℤ) → AreMinors m l s order lines → row < length l
     → line ≡ get_or lines row line → length line ≡ m + 1
 read_len m l s order lines row line t inside is = ap length (get_or_read lines row line (omega (arith, t.lines_len)) is []) ∙ line_len m l s order lines row t inside

@@ -16,8 +16,8 @@ use Rattle.criteria_model.specs.Rows.{dot}
 use Rattle.fraction_free.specs.declared.loaded.LoadedRow.{LoadedRow}
 use Rattle.fraction_free.specs.Arrangement.{IsArrangement, Arranged}
 use Rattle.fraction_free.specs.Changes.{with_sign, IsOtherLine, IsPivotLine, IsPivoted}
-use Rattle.fraction_free.specs.Tableau.{Satisfies}
-use Rattle.fraction_free.specs.Representation.{table_row, square_of, tableau_of, IsMinorTableau, IsKept, AreExchanged}
+use Rattle.fraction_free.specs.Dictionary.{Satisfies}
+use Rattle.fraction_free.specs.Representation.{table_row, square_of, view_of, AreMinors, IsRepresentation, AreExchanged}
 use Rattle.fraction_free.proofs.Table.{square_at, length-square}
 use Rattle.fraction_free.proofs.Values.{same_dot}
 use Rattle.fraction_free.proofs.Kept.{columns_and_constant, line_len}
@@ -55,7 +55,7 @@ moved : (a b : ℤ) (r q f g : List ℤ) (xs ys : List (List ℤ)) → a ≡ b �
 moved a b r q f g xs ys i j k n comb = rw (i, sym j, k, n) comb
 
 pub exchange_keeps : (m : ℕ) (l : List LoadedRow) (s : ℤ) (order : List ℕ) (lines : List (List ℤ)) (new_s : ℤ) (new_order : List ℕ) (new_lines : List (List ℤ)) (row column : ℕ)
-    → IsMinorTableau m l s order lines → IsExchange m s order lines new_s new_order new_lines row column → IsMinorTableau m l new_s new_order new_lines
+    → AreMinors m l s order lines → IsExchange m s order lines new_s new_order new_lines row column → AreMinors m l new_s new_order new_lines
 exchange_keeps m l s order lines new_s new_order new_lines row column t e = record {
   columns_some = t.columns_some;
   columns_most = t.columns_most;
@@ -124,7 +124,7 @@ abbrev pub Equations : ℕ → ℕ → ℤ → List ℕ → List (List ℤ) → 
 Equations m count s order lines x = (row : ℕ) → row < count → s *ℤ x (get_or order (m + 1 + row) 0) ≡ dot_of (get_or lines row []) (map x (take (m + 1) order))
 
 pub equations_of : (m : ℕ) (l : List LoadedRow) (s : ℤ) (order : List ℕ) (lines : List (List ℤ)) (a b c d : ℕ) (x : ℕ → ℤ)
-    → length order ≡ m + 1 + length l → get_or order m 0 ≡ 0 → Satisfies (tableau_of m l s order lines a b c d) x → Equations m (length l) s order lines x
+    → length order ≡ m + 1 + length l → get_or order m 0 ≡ 0 → Satisfies (view_of m l s order lines a b c d) x → Equations m (length l) s order lines x
 equations_of m l s order lines a b c d x len constant h row below =
     ap (λ k. s *ℤ x k) (sym (get_or-drop (m + 1) order row 0))
     ∙ h.each row (omega (arith, length-drop (m + 1) order))
@@ -132,7 +132,7 @@ equations_of m l s order lines a b c d x len constant h row below =
     ∙ same_dot (get_or lines row []) (map x (take (m + 1) order))
 
 pub satisfies_from : (m : ℕ) (l : List LoadedRow) (s : ℤ) (order : List ℕ) (lines : List (List ℤ)) (a b c d : ℕ) (x : ℕ → ℤ)
-    → length order ≡ m + 1 + length l → get_or order m 0 ≡ 0 → Equations m (length l) s order lines x → Satisfies (tableau_of m l s order lines a b c d) x
+    → length order ≡ m + 1 + length l → get_or order m 0 ≡ 0 → Equations m (length l) s order lines x → Satisfies (view_of m l s order lines a b c d) x
 satisfies_from m l s order lines a b c d x len constant h = record {
   each = λ row below.
       ap (λ k. s *ℤ x k) (get_or-drop (m + 1) order row 0)
@@ -183,7 +183,7 @@ columns_back m order new_order row column below swapped =
 
 -- what satisfies the new dictionary satisfied the old one
 pub exchange_back : (m : ℕ) (l : List LoadedRow) (s : ℤ) (order : List ℕ) (lines : List (List ℤ)) (new_s : ℤ) (new_order : List ℕ) (new_lines : List (List ℤ)) (row column : ℕ) (x : ℕ → ℤ)
-    → IsMinorTableau m l s order lines → IsExchange m s order lines new_s new_order new_lines row column
+    → AreMinors m l s order lines → IsExchange m s order lines new_s new_order new_lines row column
     → Equations m (length l) new_s new_order new_lines x → Equations m (length l) s order lines x
 exchange_back m l s order lines new_s new_order new_lines row column x t e h other below = by_row (cases_eq other row)
   where
@@ -259,7 +259,7 @@ swapped_at xs ys i j i_below j_below e = (
 )
 
 pub exchange_from : (m : ℕ) (l : List LoadedRow) (s t : ℤ) (order new_order : List ℕ) (lines new_lines : List (List ℤ)) (row column n q : ℕ) (entry_is w new_s : ℤ)
-    → IsMinorTableau m l s order lines → row < length l → column < m → entry (get_or lines row []) column ≢ pos 0
+    → AreMinors m l s order lines → row < length l → column < m → entry (get_or lines row []) column ≢ pos 0
     → t ≡ s → AreExchanged t row column lines new_lines
     → entry_is ≡ entry (get_or lines row []) column → unsigned_abs entry_is < 2 ^ 89
     → w ≡ with_sign (to_z w128 (of_z w128 entry_is)) (to_z w128 (of_z w128 entry_is)) → new_s ≡ to_z w128 (of_z w128 w)
@@ -282,8 +282,8 @@ exchange_from m l s t order new_order lines new_lines row column n q entry_is w 
 }
 
 pub exchanged_back_all : (m : ℕ) (l : List LoadedRow) (s : ℤ) (places : Arranged) (lines : List (List ℤ)) (new_s : ℤ) (new_places : Arranged) (new_lines : List (List ℤ)) (row column a b e f : ℕ) (v : ℕ → ℤ)
-    → IsMinorTableau m l s places.order lines → IsExchange m s places.order lines new_s new_places.order new_lines row column
-    → Satisfies (tableau_of m l new_s new_places.order new_lines a b e f) v → Satisfies (tableau_of m l s places.order lines a b e f) v
+    → AreMinors m l s places.order lines → IsExchange m s places.order lines new_s new_places.order new_lines row column
+    → Satisfies (view_of m l new_s new_places.order new_lines a b e f) v → Satisfies (view_of m l s places.order lines a b e f) v
 exchanged_back_all m l s places lines new_s new_places new_lines row column a b e f v k x h =
     let new = exchange_keeps m l s places.order lines new_s new_places.order new_lines row column k x in
     satisfies_from m l s places.order lines a b e f v k.order_len k.constant
@@ -291,8 +291,8 @@ exchanged_back_all m l s places lines new_s new_places new_lines row column a b 
     (equations_of m l new_s new_places.order new_lines a b e f v new.order_len new.constant h))
 
 pub exchanged_kept : (m : ℕ) (l : List LoadedRow) (s : ℤ) (places : Arranged) (lines : List (List ℤ)) (new_s : ℤ) (new_places : Arranged) (new_lines : List (List ℤ)) (row column a b c d new_c e f : ℕ)
-    → IsKept m l s places lines a b c d e f → IsExchange m s places.order lines new_s new_places.order new_lines row column → new_places.room ≡ places.room → new_c ≡ c
-    → IsKept m l new_s new_places new_lines a b new_c d e f
+    → IsRepresentation m l s places lines a b c d e f → IsExchange m s places.order lines new_s new_places.order new_lines row column → new_places.room ≡ places.room → new_c ≡ c
+    → IsRepresentation m l new_s new_places new_lines a b new_c d e f
 exchanged_kept m l s places lines new_s new_places new_lines row column a b c d new_c e f k x room same = record {
   minors = exchange_keeps m l s places.order lines new_s new_places.order new_lines row column k.minors x;
   solutions = λ v h. k.solutions v (exchanged_back_all m l s places lines new_s new_places new_lines row column a b e f v k.minors x h);
@@ -307,7 +307,7 @@ exchanged_kept m l s places lines new_s new_places new_lines row column a b c d 
 
 pub pivoted_from : (m : ℕ) (l : List LoadedRow) (s : ℤ) (order : List ℕ) (lines : List (List ℤ)) (new_s : ℤ) (new_order : List ℕ) (new_lines : List (List ℤ)) (row column a b e f : ℕ)
     → IsExchange m s order lines new_s new_order new_lines row column
-    → IsPivoted (tableau_of m l s order lines a b e f) (tableau_of m l new_s new_order new_lines a b e f) row column
+    → IsPivoted (view_of m l s order lines a b e f) (view_of m l new_s new_order new_lines a b e f) row column
 pivoted_from m l s order lines new_s new_order new_lines row column a b e f x = record {
   rest = refl;
   nonbasic =

@@ -4,7 +4,7 @@ use Rattle.std.proofs.lemmas.List.{map-id, length-map}
 use Rattle.std.proofs.lemmas.Int.{ints}
 use Rattle.std.proofs.Math.ListN.{get_or-map as get_or-map_default}
 use Rattle.minors.specs.Minor.{entry}
-use Rattle.minors.specs.Combination.{IsCombination, IsScale, IsPivoted as IsPivotedRow, IsLeaving}
+use Rattle.minors.specs.Combination.{IsCombination, IsScale, ExchangesFactors, IsLeaving}
 use Rattle.minors.proofs.Laws.{negated_combination, negated_scale}
 use Rattle.minors.proofs.Ring.{sums, neg-mul, mul-neg}
 use Rattle.std.proofs.Math.IntN.{*ℤ_comm}
@@ -69,7 +69,7 @@ turned_of_combination p s row factors rows h =
 
 -- ---- a pivot's lines, as the laws of minors have them: with the signs turned back
 
-pub pivoted_of : (s : ℤ) (column : ℕ) (pivot old new : List ℤ) → IsOtherLine s column pivot old new → IsPivotedRow s column pivot old (turn (entry pivot column) new)
+pub pivoted_of : (s : ℤ) (column : ℕ) (pivot old new : List ℤ) → IsOtherLine s column pivot old new → ExchangesFactors s column pivot old (turn (entry pivot column) new)
 pivoted_of s column pivot old new h =
     let p = entry pivot column in
     record {
@@ -101,8 +101,8 @@ back_step q s p r f y u h e =
     turned n = omega (arith, ints)
 
 -- the same pivot on the new lines gives back the old ones
-pub pivoted_back : (s : ℤ) (column : ℕ) (pivot old turned left : List ℤ) → IsPivotedRow s column pivot old turned → IsLeaving s column pivot left → length pivot ≡ length old
-    → IsPivotedRow (entry pivot column) column left turned old
+pub pivoted_back : (s : ℤ) (column : ℕ) (pivot old turned left : List ℤ) → ExchangesFactors s column pivot old turned → IsLeaving s column pivot left → length pivot ≡ length old
+    → ExchangesFactors (entry pivot column) column left turned old
 pivoted_back s column pivot old turned left h l same = record {
   len = sym h.len;
   kept = sym h.kept;

@@ -15,7 +15,7 @@ use Rattle.minors.proofs.Total.{dot_is_total, total_zero, total_same}
 use Rattle.minors.proofs.Ring.{sums, mul_zero, one_mul, abs-add}
 use Rattle.fraction_free.specs.declared.loaded.LoadedRow.{LoadedRow}
 use Rattle.fraction_free.specs.Changes.{number_at}
-use Rattle.fraction_free.specs.Representation.{unit, slack_constant, row_of, table_row, square_of, IsMinorTableau, factors_at, IsAdded}
+use Rattle.fraction_free.specs.Representation.{unit, slack_constant, row_of, table_row, square_of, AreMinors, factors_at, IsAdded}
 use Rattle.fraction_free.proofs.Table.{unit_one, unit_zero, table_row-increment, table_row-constant, length-square, square_at, row_of_last, row_of_plain}
 
 pub factors_at-column : (s : ℤ) (lines : List (List ℤ)) (width place : ℕ) → place < width → factors_at s lines width place ≡ set (replicate width (pos 0)) place s
@@ -76,7 +76,7 @@ zero_combination s width rows len = record {
 }
 
 -- the factors of the variable at a place
-pub variable_factors : (m : ℕ) (l : List LoadedRow) (s : ℤ) (order : List ℕ) (lines : List (List ℤ)) (place : ℕ) → IsMinorTableau m l s order lines → place < length order
+pub variable_factors : (m : ℕ) (l : List LoadedRow) (s : ℤ) (order : List ℕ) (lines : List (List ℤ)) (place : ℕ) → AreMinors m l s order lines → place < length order
     → IsCombination s (table_row m l (get_or order place 0)) (factors_at s lines (m + 1) place) (square_of m l order)
 variable_factors m l s order lines place t below =
     elim (cases_lt place (m + 1)) [
@@ -199,7 +199,7 @@ added_size k old other new at times most added k_size size other_size =
 
 pub first_line : (m : ℕ) (l : List LoadedRow) (s : ℤ) (order : List ℕ) (lines : List (List ℤ)) (coefficients zeros line : List ℤ) (k constant : ℤ) (width place : ℕ)
     → zeros ≡ replicate width (pos 0) → width ≡ m + 1 → place ≡ m → k ≡ constant → IsAdded k zeros (factors_at s lines (length zeros) place) line
-    → IsMinorTableau m l s order lines → IsCombination s (part m constant coefficients 0) line (square_of m l order)
+    → AreMinors m l s order lines → IsCombination s (part m constant coefficients 0) line (square_of m l order)
 first_line m l s order lines coefficients zeros line k constant width place is width_is place_is k_is added t =
     let rows = square_of m l order in
     let rows_len : length rows ≡ m + 1 = length-square m l order (omega (arith, t.order_len)) in
@@ -215,7 +215,7 @@ first_line m l s order lines coefficients zeros line k constant width place is w
 pub next_line : (m : ℕ) (l : List LoadedRow) (s : ℤ) (order : List ℕ) (lines : List (List ℤ)) (coefficients line new : List ℤ) (k constant : ℤ) (n next place : ℕ)
     → length line ≡ m + 1 → get_or order place 0 ≡ n + 1 → place < length order → n < m → k ≡ entry coefficients n → next ≡ n + 1
     → IsAdded k line (factors_at s lines (length line) place) new
-    → IsMinorTableau m l s order lines → IsCombination s (part m constant coefficients n) line (square_of m l order)
+    → AreMinors m l s order lines → IsCombination s (part m constant coefficients n) line (square_of m l order)
     → IsCombination s (part m constant coefficients next) new (square_of m l order)
 next_line m l s order lines coefficients line new k constant n next place len variable place_in below k_is next_is added t comb =
     let rows = square_of m l order in
@@ -232,12 +232,12 @@ next_line m l s order lines coefficients line new k constant n next place len va
 
 pub last_line : (m : ℕ) (l : List LoadedRow) (s t : ℤ) (order : List ℕ) (lines : List (List ℤ)) (coefficients line : List ℤ) (least u : ℤ) (n : ℕ)
     → t ≡ s → u ≡ least → n ≡ m → length coefficients ≡ m
-    → (IsMinorTableau m l t order lines → IsCombination t (part m (slack_constant (record { coefficients = coefficients; least = u })) coefficients n) line (square_of m l order))
-    → IsMinorTableau m l s order lines → IsCombination s (row_of (record { coefficients = coefficients; least = least })) line (square_of m l order)
+    → (AreMinors m l t order lines → IsCombination t (part m (slack_constant (record { coefficients = coefficients; least = u })) coefficients n) line (square_of m l order))
+    → AreMinors m l s order lines → IsCombination s (row_of (record { coefficients = coefficients; least = least })) line (square_of m l order)
 last_line m l s t order lines coefficients line least u n same least_is n_is len h k =
     let row : LoadedRow = record { coefficients = coefficients; least = least } in
     let at_u : LoadedRow = record { coefficients = coefficients; least = u } in
-    let given = h (subst (λ (z : ℤ). IsMinorTableau m l z order lines) (sym same) k) in
+    let given = h (subst (λ (z : ℤ). AreMinors m l z order lines) (sym same) k) in
     let moved = subst (λ (z : ℤ). IsCombination z (part m (slack_constant at_u) coefficients n) line (square_of m l order)) same given in
     let based = subst (λ (z : ℤ). IsCombination s (part m (slack_constant (record { coefficients = coefficients; least = z })) coefficients n) line (square_of m l order)) least_is moved in
     let whole = subst (λ i. IsCombination s (part m (slack_constant row) coefficients i) line (square_of m l order)) n_is based in

@@ -9,7 +9,7 @@ use Rattle.minors.specs.Minor.{entry, IsUnit, HasSmallEntries}
 use Rattle.minors.proofs.Ring.{abs-add}
 use Rattle.fraction_free.specs.declared.loaded.LoadedRow.{LoadedRow}
 use Rattle.fraction_free.specs.Arrangement.{IsArrangement}
-use Rattle.fraction_free.specs.Tableau.{IsLoadable, loaded_at}
+use Rattle.fraction_free.specs.Dictionary.{IsLoadable, loaded_at}
 use Rattle.fraction_free.specs.Representation.{unit, slack_constant, row_of, table_row, square_of}
 
 pub table_row-constant : (m : ℕ) (l : List LoadedRow) → table_row m l 0 ≡ unit (m + 1) m

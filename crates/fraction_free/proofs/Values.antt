@@ -14,7 +14,7 @@ use Rattle.criteria_model.specs.Rows.{dot}
 use Rattle.criteria_model.proofs.RowLemmas.{dot-append}
 use Rattle.fraction_free.specs.declared.loaded.LoadedRow.{LoadedRow}
 use Rattle.fraction_free.specs.Arrangement.{IsArrangement}
-use Rattle.fraction_free.specs.Tableau.{IsLoadable, HasSlacks, loaded_at, slack_of, vector_of}
+use Rattle.fraction_free.specs.Dictionary.{IsLoadable, HasSlacks, loaded_at, slack_of, vector_of}
 use Rattle.fraction_free.specs.Representation.{unit, slack_constant, row_of, table_row, square_of}
 use Rattle.fraction_free.proofs.Table.{unit_one, unit_zero, table_row-increment, table_row-slack, length-square}
 

@@ -2,15 +2,15 @@
 use Rattle.std.specs.Prelude.{ℕ, ◌+◌, ◌-◌, ◌^◌, ◌≡◌, ◌≢◌, ◌<◌, min, List, [], ◌∷◌, ◌++◌, length, take, slice_index, slice_index_or, slice_set, ℤ, pos, negsuc, neg_ℤ, ◌-ℤ◌, ◌*ℤ◌}
 use Rattle.std.specs.List.{range_with_len}
 use Rattle.fraction_free.specs.declared.loaded.LoadedRow.{LoadedRow}
-use Rattle.fraction_free.specs.Tableau.{Tableau, line_of}
+use Rattle.fraction_free.specs.Dictionary.{DictionaryView, line_of}
 
 -- a count that rises by one, or stands at its last value
 abbrev pub next_count : ℕ → ℕ
 next_count count = min (count + 1) (2 ^ 64 - 1)
 
 -- a dictionary with no rows
-abbrev pub empty_tableau : ℕ → ℕ → ℕ → ℕ → ℕ → Tableau
-empty_tableau columns room_columns room_rows loads added = record {
+abbrev pub empty_dictionary : ℕ → ℕ → ℕ → ℕ → ℕ → DictionaryView
+empty_dictionary columns room_columns room_rows loads added = record {
   columns = columns;
   loaded = [];
   scale = pos 1;
@@ -24,7 +24,7 @@ empty_tableau columns room_columns room_rows loads added = record {
 }
 
 -- a row more, whose slack is basic; no other equation changes
-pub record AddsRow (old new : Tableau) (row : LoadedRow) : Type 0 where
+pub record AddsRow (old new : DictionaryView) (row : LoadedRow) : Type 0 where
   pub line : List ℤ
   pub is : new ≡ record old {
     loaded = old.loaded ++ row ∷ [];
@@ -58,7 +58,7 @@ pub record IsPivotLine (scale : ℤ) (column : ℕ) (pivot new : List ℤ) : Typ
       → number_at new other ≡ with_sign (number_at pivot column) (neg_ℤ (number_at pivot other))
 
 -- the basic variable of the row and the nonbasic variable of the column are exchanged, both counted from 0
-pub record IsPivoted (old new : Tableau) (row column : ℕ) : Type 0 where
+pub record IsPivoted (old new : DictionaryView) (row column : ℕ) : Type 0 where
   pub rest : new ≡ record old { scale = new.scale; nonbasic = new.nonbasic; basic = new.basic; lines = new.lines }
   pub nonbasic : new.nonbasic ≡ slice_set old.nonbasic column (slice_index old.basic row)
   pub basic : new.basic ≡ slice_set old.basic row (slice_index old.nonbasic column)
@@ -69,7 +69,7 @@ pub record IsPivoted (old new : Tableau) (row column : ℕ) : Type 0 where
       → IsOtherLine old.scale column (line_of old row) (line_of old other) (line_of new other)
 
 -- the last loaded row is gone
-pub record DropsLast (old new : Tableau) : Type 0 where
+pub record DropsLast (old new : DictionaryView) : Type 0 where
   pub loaded : new.loaded ≡ take (length old.loaded - 1) old.loaded
   pub columns : new.columns ≡ old.columns
   pub room_columns : new.room_columns ≡ old.room_columns
@@ -84,5 +84,5 @@ pub record IsExchangedAt (scale entry factor other : ℤ) (old new : List ℤ) (
   pub others : (at : ℕ) → at ≢ place → number_at new at ≡ number_at old at
 
 -- pivots change scale, variables and lines only
-abbrev pub IsPivotedAny : Tableau → Tableau → Type 0
+abbrev pub IsPivotedAny : DictionaryView → DictionaryView → Type 0
 IsPivotedAny old new = new ≡ record old { scale = new.scale; nonbasic = new.nonbasic; basic = new.basic; lines = new.lines }

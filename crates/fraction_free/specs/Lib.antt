@@ -1,4 +1,4 @@
 pub mod Arrangement
-pub mod Tableau
+pub mod Dictionary
 pub mod Changes
 pub mod Representation

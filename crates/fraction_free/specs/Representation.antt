@@ -7,7 +7,7 @@ use Rattle.fraction_free.specs.Changes.{number_at, IsOtherLine, IsPivotLine}
 use Rattle.minors.specs.Combination.{IsCombination, IsScale}
 use Rattle.fraction_free.specs.declared.loaded.LoadedRow.{LoadedRow}
 use Rattle.fraction_free.specs.Arrangement.{IsArrangement, Arranged}
-use Rattle.fraction_free.specs.Tableau.{Tableau, IsLoadable, HasSlacks, Satisfies, loaded_at}
+use Rattle.fraction_free.specs.Dictionary.{DictionaryView, IsLoadable, HasSlacks, Satisfies, loaded_at}
 
 -- the row of the identity with its 1 at a place
 abbrev pub unit : ℕ → ℕ → List ℤ
@@ -33,8 +33,8 @@ abbrev pub square_of : ℕ → List LoadedRow → List ℕ → List (List ℤ)
 square_of columns loaded order = map (table_row columns loaded) (take (columns + 1) order)
 
 -- the dictionary with these variables: of the columns, 0, and of the rows
-abbrev pub tableau_of : ℕ → List LoadedRow → ℤ → List ℕ → List (List ℤ) → ℕ → ℕ → ℕ → ℕ → Tableau
-tableau_of columns loaded scale order lines room_columns room_rows loads added = record {
+abbrev pub view_of : ℕ → List LoadedRow → ℤ → List ℕ → List (List ℤ) → ℕ → ℕ → ℕ → ℕ → DictionaryView
+view_of columns loaded scale order lines room_columns room_rows loads added = record {
   columns = columns;
   loaded = loaded;
   scale = scale;
@@ -48,7 +48,7 @@ tableau_of columns loaded scale order lines room_columns room_rows loads added =
 }
 
 -- scale and lines are minors, up to one common sign
-pub record IsMinorTableau (columns : ℕ) (loaded : List LoadedRow) (scale : ℤ) (order : List ℕ) (lines : List (List ℤ)) : Type 0 where
+pub record AreMinors (columns : ℕ) (loaded : List LoadedRow) (scale : ℤ) (order : List ℕ) (lines : List (List ℤ)) : Type 0 where
   pub columns_some : 1 ≤ columns
   pub columns_most : columns ≤ 24
   pub lines_len : length lines ≡ length loaded
@@ -62,9 +62,9 @@ pub record IsMinorTableau (columns : ℕ) (loaded : List LoadedRow) (scale : ℤ
       → IsCombination scale (table_row columns loaded (slice_index order (columns + 1 + row))) (slice_index_or lines row []) (square_of columns loaded order)
 
 -- what a dictionary keeps: its numbers are minors, its solutions have the loaded rows' slacks, and there is room
-pub record IsKept (columns : ℕ) (loaded : List LoadedRow) (scale : ℤ) (places : Arranged) (lines : List (List ℤ)) (room_columns room_rows lines_room loaded_room loads added : ℕ) : Type 0 where
-  pub minors : IsMinorTableau columns loaded scale places.order lines
-  pub solutions : (x : ℕ → ℤ) → Satisfies (tableau_of columns loaded scale places.order lines room_columns room_rows loads added) x → HasSlacks columns loaded x
+pub record IsRepresentation (columns : ℕ) (loaded : List LoadedRow) (scale : ℤ) (places : Arranged) (lines : List (List ℤ)) (room_columns room_rows lines_room loaded_room loads added : ℕ) : Type 0 where
+  pub minors : AreMinors columns loaded scale places.order lines
+  pub solutions : (x : ℕ → ℤ) → Satisfies (view_of columns loaded scale places.order lines room_columns room_rows loads added) x → HasSlacks columns loaded x
   pub columns_room : columns ≤ room_columns
   pub columns_most : room_columns ≤ 24
   pub rows_room : length loaded ≤ room_rows

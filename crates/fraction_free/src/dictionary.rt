@@ -34,28 +34,28 @@ pub struct Dictionary {
 
 impl Model for Dictionary {
     ghost use Rattle.std.specs.Prelude.{vec_capacity};
-    ghost use Rattle.fraction_free.specs.Tableau.{Tableau};
-    ghost use Rattle.fraction_free.specs.Representation.{tableau_of, IsKept};
+    ghost use Rattle.fraction_free.specs.Dictionary.{DictionaryView};
+    ghost use Rattle.fraction_free.specs.Representation.{view_of, IsRepresentation};
 
-    ghost Value = { Tableau };
+    ghost Value = { DictionaryView };
 
-    ghost view = { λ d. tableau_of d.columns d.loaded.items d.scale d.places.order d.lines.items
+    ghost view = { λ d. view_of d.columns d.loaded.items d.scale d.places.order d.lines.items
         d.room_columns d.room_rows d.loads d.added };
 
-    ghost invariant = { λ d. IsKept d.columns d.loaded.items d.scale d.places d.lines.items
+    ghost invariant = { λ d. IsRepresentation d.columns d.loaded.items d.scale d.places d.lines.items
         d.room_columns d.room_rows (vec_capacity d.lines) (vec_capacity d.loaded) d.loads d.added };
 }
 
 impl Dictionary {
-    ghost use Rattle.fraction_free.specs.Tableau.{Tableau, IsDictionary, Satisfies, line_of, loaded_at};
-    ghost use Rattle.fraction_free.specs.Changes.{empty_tableau, next_count, number_at, AddsRow, IsPivoted, IsPivotedAny, DropsLast};
+    ghost use Rattle.fraction_free.specs.Dictionary.{DictionaryView, IsDictionary, Satisfies, entry_in, constant_in, loaded_at};
+    ghost use Rattle.fraction_free.specs.Changes.{empty_dictionary, next_count, AddsRow, IsPivoted, IsPivotedAny, DropsLast};
 
     /// A dictionary with no rows, and with room for so many columns and rows.
     pub fn reserve(alloc: Global, cols: u8, rows: u32) -> Result<Dictionary, NoMemory>
         requires cols_some { 1 ≤ cols }
         requires cols_most { cols ≤ 24 }
         requires rows_most { rows ≤ 65536 }
-        ensures empty { IfOk result (λ d. d ≡ empty_tableau cols cols rows 0 0) }
+        ensures empty { IfOk result (λ d. d ≡ empty_dictionary cols cols rows 0 0) }
         ensures dictionary { IfOk result (λ d. IsDictionary d) }
     {
         let room = usize::from(cols) + 1 + rows as usize;
@@ -80,7 +80,7 @@ impl Dictionary {
     pub fn load(&mut self, cols: u8)
         requires some { 1 ≤ cols }
         requires room { cols ≤ self.old.room_columns }
-        ensures empty { self.new ≡ empty_tableau cols self.old.room_columns self.old.room_rows (next_count self.old.loads) self.old.added }
+        ensures empty { self.new ≡ empty_dictionary cols self.old.room_columns self.old.room_rows (next_count self.old.loads) self.old.added }
         ensures dictionary { IsDictionary self.new }
     {
         self.lines.clear();
@@ -123,7 +123,7 @@ impl Dictionary {
         requires row_high { row ≤ length self.old.loaded }
         requires col_low { 1 ≤ col }
         requires col_high { col ≤ self.old.columns }
-        requires entry { number_at (line_of self.old (row - 1)) (col - 1) ≢ pos 0 }
+        requires entry { entry_in self.old (row - 1) (col - 1) ≢ pos 0 }
         ensures pivoted { IsPivoted self.old self.new (row - 1) (col - 1) }
         ensures solutions { (x : ℕ → ℤ) → Satisfies self.new x ↔ Satisfies self.old x }
         ensures dictionary { IsDictionary self.new }
@@ -222,7 +222,7 @@ impl Dictionary {
         requires row_high { row ≤ length self.now.loaded }
         requires col_low { 1 ≤ col }
         requires col_high { col ≤ self.now.columns }
-        ensures { result ≡ number_at (line_of self.now (row - 1)) (col - 1) }
+        ensures { result ≡ entry_in self.now (row - 1) (col - 1) }
     {
         let line = &self.lines[row as usize - 1];
         line.get(usize::from(col) - 1)
@@ -232,7 +232,7 @@ impl Dictionary {
     pub fn constant(&self, row: u32) -> i128
         requires low { 1 ≤ row }
         requires high { row ≤ length self.now.loaded }
-        ensures { result ≡ number_at (line_of self.now (row - 1)) self.now.columns }
+        ensures { result ≡ constant_in self.now (row - 1) }
     {
         let line = &self.lines[row as usize - 1];
         line.get(usize::from(self.columns))

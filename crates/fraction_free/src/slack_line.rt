@@ -4,8 +4,8 @@ ghost use Rattle.criteria_model.specs.Lists.{IsRow};
 ghost use Rattle.minors.specs.Combination.{IsCombination};
 ghost use Rattle.fraction_free.specs.declared.loaded.LoadedRow.{LoadedRow};
 ghost use Rattle.fraction_free.specs.Changes.{number_at};
-ghost use Rattle.fraction_free.specs.Tableau.{IsLoadable};
-ghost use Rattle.fraction_free.specs.Representation.{IsMinorTableau, row_of, slack_constant, square_of, factors_at, IsAdded, CanCombine};
+ghost use Rattle.fraction_free.specs.Dictionary.{IsLoadable};
+ghost use Rattle.fraction_free.specs.Representation.{AreMinors, row_of, slack_constant, square_of, factors_at, IsAdded, CanCombine};
 
 use crate::lines::Line;
 use crate::places::Places;
@@ -25,7 +25,7 @@ pub fn slack_line(
     requires len { length coefficients.now ≡ columns }
     requires least { (least ≡ pos 0) ⊎ (least ≡ pos 1) }
     ensures row { IsLoadable columns (record { coefficients = coefficients.now; least = least }) }
-    ensures line { (loaded : List LoadedRow) → IsMinorTableau columns loaded scale places.now.order lines.now
+    ensures line { (loaded : List LoadedRow) → AreMinors columns loaded scale places.now.order lines.now
         → IsCombination scale (row_of (record { coefficients = coefficients.now; least = least })) result (square_of columns loaded places.now.order) }
 {
     let width = usize::from(columns) + 1;

@@ -1,4 +1,4 @@
--- What the rule's choice says, and the basic solution of a system.
+-- What the rule's choice says, and the basic solution of a dictionary.
 use Rattle.std.proofs.Common.{◌≡◌, ℕ, ◌<◌, Bool, true, false, cond, not, ◌&&◌, ℤ, pos, ◌+ℤ◌, ◌*ℤ◌, ◌<ℤ◌, ◌≤ℤ◌, refl, ap, ◌∙◌, arith}
 use Rattle.std.specs.Prelude.{nat_lt, int_lt, ◌==◌}
 use Rattle.std.proofs.Math.IntN.{*ℤ_comm}
@@ -6,7 +6,7 @@ use Rattle.std.proofs.lemmas.Int.{ints}
 use Rattle.std.proofs.lemmas.Bool.{cond-true, ltb-true, not-true, not-false, true≢false, false≢true}
 use borrow.Author.Differences.{lt-true, lt-false}
 use Rattle.minors.proofs.Ring.{sums, mul_zero}
-use Rattle.least_index.specs.System.{System, sum_below, term, Satisfies}
+use Rattle.least_index.specs.Dictionary.{RationalDictionary, sum_below, term, IsSolution}
 use Rattle.least_index.specs.Rule.{is_infeasible, helps, leaving, entering, is_end, next}
 use Rattle.least_index.proofs.Signs.{mul_pos}
 use Rattle.least_index.proofs.Sums.{sum-zero}
@@ -42,7 +42,7 @@ pub not_positive : (a : ℤ) → int_lt (pos 0) a ≡ false → a ≤ℤ pos 0
 not_positive a h = let g = lt-false (pos 0) a h in omega (arith, ints)
 
 -- the rule's choice: the least infeasible variable, and the least one that helps it
-pub record IsChoice (t : System) (r c : ℕ) : Type 0 where
+pub record IsChoice (t : RationalDictionary) (r c : ℕ) : Type 0 where
   pub is_leaving : leaving t ≡ r
   pub is_entering : entering t ≡ c
   pub leaving_within : r < t.size
@@ -54,7 +54,7 @@ pub record IsChoice (t : System) (r c : ℕ) : Type 0 where
   pub feasible_below : (v : ℕ) → v < r → t.is_basic v ≡ true → pos 0 ≤ℤ t.constant v
   pub no_help_below : (w : ℕ) → w < c → t.is_basic w ≡ false → t.entry r w ≤ℤ pos 0
 
-pub chosen : (t : System) → is_end t ≡ false → IsChoice t (leaving t) (entering t)
+pub chosen : (t : RationalDictionary) → is_end t ≡ false → IsChoice t (leaving t) (entering t)
 unfolding leaving entering
 chosen t going =
     let both : (nat_lt (leaving t) t.size && nat_lt (entering t) t.size) ≡ true = not-false (nat_lt (leaving t) t.size && nat_lt (entering t) t.size) going in
@@ -75,7 +75,7 @@ chosen t going =
       no_help_below = λ w lt b. not_positive (t.entry (leaving t) w) (not_both (t.is_basic w) (int_lt (pos 0) (t.entry (leaving t) w)) (first-below (helps t (leaving t)) t.size w lt) b);
     }
 
-pub choice_is_exchange : (t : System) → pos 0 <ℤ t.scale → is_end t ≡ false → IsExchange t (leaving t) (entering t)
+pub choice_is_exchange : (t : RationalDictionary) → pos 0 <ℤ t.scale → is_end t ≡ false → IsExchange t (leaving t) (entering t)
 choice_is_exchange t positive_scale going =
     let is : IsChoice t (leaving t) (entering t) = chosen t going in
     record {
@@ -87,21 +87,21 @@ choice_is_exchange t positive_scale going =
       pivot_positive = is.helping;
     }
 
-pub next_scale : (t : System) → pos 0 <ℤ t.scale → is_end t ≡ false → pos 0 <ℤ (next t).scale
+pub next_scale : (t : RationalDictionary) → pos 0 <ℤ t.scale → is_end t ≡ false → pos 0 <ℤ (next t).scale
 unfolding next
 next_scale t positive_scale going =
     mul_pos t.scale (t.entry (leaving t) (entering t)) positive_scale (chosen t going).helping
 
-pub next_size : (t : System) → (next t).size ≡ t.size
+pub next_size : (t : RationalDictionary) → (next t).size ≡ t.size
 unfolding next
 next_size t = refl
 
-pub next_basic : (t : System) (v : ℕ) → (next t).is_basic v ≡ cond (v == entering t) true (cond (v == leaving t) false (t.is_basic v))
+pub next_basic : (t : RationalDictionary) (v : ℕ) → (next t).is_basic v ≡ cond (v == entering t) true (cond (v == leaving t) false (t.is_basic v))
 unfolding next
 next_basic t v = refl
 
 -- the values of the variables where those that are not basic are 0, times the scale
-abbrev pub basic_solution : System → ℕ → ℤ
+abbrev pub basic_solution : RationalDictionary → ℕ → ℤ
 basic_solution t v = cond (t.is_basic v) (t.constant v) (pos 0)
 
 no_term : (b : Bool) (e c : ℤ) → cond b (pos 0) (e *ℤ cond b c (pos 0)) ≡ pos 0
@@ -111,7 +111,7 @@ no_term false e c = mul_zero e
 plus_zero : (a b : ℤ) → b ≡ pos 0 → a ≡ a +ℤ b
 plus_zero a b e = omega (arith, sums)
 
-pub basic_solution_satisfies : (t : System) → Satisfies t t.scale (basic_solution t)
+pub basic_solution_satisfies : (t : RationalDictionary) → IsSolution t t.scale (basic_solution t)
 basic_solution_satisfies t = record {
   each = λ v lt b.
       ap (λ (n : ℤ). t.scale *ℤ n) (cond-true (t.is_basic v) (t.constant v) (pos 0) b)

@@ -3,12 +3,12 @@ use Rattle.std.proofs.Common.{◌≡◌, ◌≢◌, ℕ, ◌<◌, Bool, true, fa
 use Rattle.std.specs.Prelude.{◌==◌}
 use Rattle.std.proofs.lemmas.Bool.{cond-true, cond-false, cases_Bool, eq-eqb, eqb-true, true≢false, false≢true}
 use Rattle.minors.proofs.Ring.{sums, mul-add, mul-sub, sub-mul, neg-mul, mul_assoc, mul_swap, mul_zero, zero_mul, cancel}
-use Rattle.least_index.specs.System.{System, sum_below, term, right_side, Satisfies, exchanged}
+use Rattle.least_index.specs.Dictionary.{RationalDictionary, sum_below, term, right_side, IsSolution, exchanged}
 use Rattle.least_index.proofs.Sums.{sum-ext, sum-mix, at_place, sum-at_place}
 use Rattle.least_index.proofs.Signs.{positive_is_not_zero}
 
 -- a pivot on a positive entry
-pub record IsExchange (t : System) (leaving entering : ℕ) : Type 0 where
+pub record IsExchange (t : RationalDictionary) (leaving entering : ℕ) : Type 0 where
   pub leaving_within : leaving < t.size
   pub entering_within : entering < t.size
   pub leaving_basic : t.is_basic leaving ≡ true
@@ -87,7 +87,7 @@ entering_algebra one s p cr sr xr xc sums_new e =
     omega (arith, sums, e, zero_mul sr, neg-mul (s *ℤ cr) one, mul_assoc s cr one, mul_assoc s s xr, mul-add s (s *ℤ xr -ℤ (cr *ℤ one +ℤ sr)) (p *ℤ xc), mul-sub s (s *ℤ xr) (cr *ℤ one +ℤ sr), mul-add s (cr *ℤ one) sr)
 
 -- the new right side of a variable other than the entering one
-pub other_right_side : (t : System) (leaving entering : ℕ) (one : ℤ) (x : ℕ → ℤ) (v : ℕ)
+pub other_right_side : (t : RationalDictionary) (leaving entering : ℕ) (one : ℤ) (x : ℕ → ℤ) (v : ℕ)
     → IsExchange t leaving entering → (v == entering) ≡ false
     → right_side (exchanged t leaving entering) one x v
     ≡ t.entry leaving entering *ℤ right_side t one x v +ℤ t.entry v entering *ℤ (t.scale *ℤ x leaving -ℤ right_side t one x leaving)
@@ -112,7 +112,7 @@ other_right_side t leaving entering one x v is other =
     ∙ other_algebra one t.scale (t.entry leaving entering) (t.entry v entering) (t.constant v) (t.constant leaving) (sum_below f t.size) (sum_below g t.size) (x leaving) (sum_below (term (exchanged t leaving entering) v x) t.size) summed
 
 -- and that of the entering one
-pub entering_right_side : (t : System) (leaving entering : ℕ) (one : ℤ) (x : ℕ → ℤ) (v : ℕ)
+pub entering_right_side : (t : RationalDictionary) (leaving entering : ℕ) (one : ℤ) (x : ℕ → ℤ) (v : ℕ)
     → IsExchange t leaving entering → (v == entering) ≡ true
     → right_side (exchanged t leaving entering) one x v
     ≡ t.scale *ℤ (t.scale *ℤ x leaving -ℤ right_side t one x leaving +ℤ t.entry leaving entering *ℤ x entering)
@@ -154,9 +154,9 @@ forward_entering s p xc xr rr r =
     same : (a b c : ℤ) → a ≡ b → c ≡ a -ℤ b +ℤ c
     same a b c e = omega (arith, sums)
 
--- what satisfies a system satisfies it after an exchange
-pub exchange_keeps : (t : System) (leaving entering : ℕ) (one : ℤ) (x : ℕ → ℤ)
-    → IsExchange t leaving entering → Satisfies t one x → Satisfies (exchanged t leaving entering) one x
+-- what satisfies a dictionary satisfies it after an exchange
+pub exchange_keeps : (t : RationalDictionary) (leaving entering : ℕ) (one : ℤ) (x : ℕ → ℤ)
+    → IsExchange t leaving entering → IsSolution t one x → IsSolution (exchanged t leaving entering) one x
 exchange_keeps t leaving entering one x is sat = record {
   each = λ v lt basic. step v lt basic (cases_Bool (v == entering));
 }
@@ -186,8 +186,8 @@ back_other s p xv rv evc a ne none e =
     cancel p (s *ℤ xv) rv ne (omega (arith, sums, e, gone, mul_assoc s p xv, mul_swap s p xv))
 
 -- and the other way
-pub exchange_reflects : (t : System) (leaving entering : ℕ) (one : ℤ) (x : ℕ → ℤ)
-    → IsExchange t leaving entering → Satisfies (exchanged t leaving entering) one x → Satisfies t one x
+pub exchange_reflects : (t : RationalDictionary) (leaving entering : ℕ) (one : ℤ) (x : ℕ → ℤ)
+    → IsExchange t leaving entering → IsSolution (exchanged t leaving entering) one x → IsSolution t one x
 exchange_reflects t leaving entering one x is sat = record {
   each = λ v lt basic. step v lt basic (cases_Bool (v == entering)) (cases_Bool (v == leaving));
 }

@@ -1,17 +1,17 @@
--- Of two systems of the same solutions, a variable can't enter at one and leave at the other, where the greater variables that are not basic are the same in both.
+-- Of two dictionaries of the same solutions, a variable can't enter at one and leave at the other, where the greater variables that are not basic are the same in both.
 use Rattle.std.proofs.Common.{◌≡◌, ◌≢◌, ℕ, ◌<◌, ◌≤◌, Bool, true, false, cond, ◌⊎◌, inl, inr, ℤ, pos, ◌+ℤ◌, ◌*ℤ◌, ◌<ℤ◌, ◌≤ℤ◌, refl, sym, ap, subst, ◌∙◌, arith}
 use Rattle.std.specs.Prelude.{nat_lt, ◌==◌}
 use Rattle.std.proofs.Math.IntN.{*ℤ_comm}
 use Rattle.std.proofs.lemmas.Int.{ints}
 use Rattle.std.proofs.lemmas.Bool.{cond-true, cond-false, cases_Bool, ltb-true, ltb-false, eqb-true, eqb-false, true≢false}
 use Rattle.minors.proofs.Ring.{mul_zero}
-use Rattle.least_index.specs.System.{System, sum_below, term, Satisfies}
+use Rattle.least_index.specs.Dictionary.{RationalDictionary, sum_below, term, IsSolution}
 use Rattle.least_index.proofs.Signs.{mul_nonneg, mul_nonpos, mul_neg, nonneg_of_pos}
 use Rattle.least_index.proofs.Sums.{sum-nonpositive}
 use Rattle.least_index.proofs.Choice.{IsChoice, basic_solution, basic_solution_satisfies}
 
--- at the basic solution of a system, a variable below the one that leaves is at least 0
-below_leaving : (t : System) (r c v : ℕ) → IsChoice t r c → v < r → pos 0 ≤ℤ basic_solution t v
+-- at the basic solution of a dictionary, a variable below the one that leaves is at least 0
+below_leaving : (t : RationalDictionary) (r c v : ℕ) → IsChoice t r c → v < r → pos 0 ≤ℤ basic_solution t v
 below_leaving t r c v is lt = from (t.is_basic v) refl
   where
     from : (b : Bool) → t.is_basic v ≡ b → pos 0 ≤ℤ cond b (t.constant v) (pos 0)
@@ -34,11 +34,11 @@ contradiction s x c one total ps px nc po nt e =
     impossible a b c h k l e = omega (arith, ints)
 
 -- k enters at the first and leaves at the second
-pub not_opposed : (t u : System) (r k l d : ℕ)
+pub not_opposed : (t u : RationalDictionary) (r k l d : ℕ)
     → pos 0 <ℤ t.scale → pos 0 <ℤ u.scale
     → IsChoice t r k → IsChoice u k d → r ≤ k
     → ((w : ℕ) → k < w → w < t.size → t.is_basic w ≡ false → u.is_basic w ≡ false)
-    → (Satisfies u u.scale (basic_solution u) → Satisfies t u.scale (basic_solution u))
+    → (IsSolution u u.scale (basic_solution u) → IsSolution t u.scale (basic_solution u))
     → ⊥
 not_opposed t u r k l d pt pu is other le above solves =
     contradiction t.scale (basic_solution u r) (t.constant r) u.scale (sum_below (term t r (basic_solution u)) t.size) pt

@@ -1,4 +1,4 @@
--- Systems of one basis with the same solutions are proportional, so the rule takes the same way from both.
+-- Dictionaries of one basis with the same solutions are proportional, so the rule takes the same way from both.
 use Rattle.std.proofs.Common.{◌≡◌, ℕ, zero, suc, ◌<◌, Bool, true, false, cond, not, ◌&&◌, ◌⊎◌, inl, inr, ℤ, pos, ◌+ℤ◌, ◌*ℤ◌, ◌<ℤ◌, ◌≤ℤ◌, refl, sym, ap, ◌∙◌, arith}
 use Rattle.std.specs.Prelude.{nat_lt, int_lt, ◌==◌}
 use Rattle.std.proofs.Math.IntN.{*ℤ_comm}
@@ -6,7 +6,7 @@ use Rattle.std.proofs.lemmas.Int.{ints}
 use Rattle.std.proofs.lemmas.Bool.{cond-true, cases_Bool, ltb-true, eqb-true, true≢false, false≢true}
 use Rattle.std.specs.Cmp.{both_ways}
 use Rattle.minors.proofs.Ring.{sums, mul_zero}
-use Rattle.least_index.specs.System.{System, sum_below, term, right_side, Satisfies}
+use Rattle.least_index.specs.Dictionary.{RationalDictionary, sum_below, term, right_side, IsSolution}
 use Rattle.least_index.specs.Rule.{first, is_infeasible, helps, leaving, entering, is_end, next, pivots_within, Covers}
 use Rattle.least_index.proofs.Signs.{nonneg_of_pos, mul_nonneg, mul_nonpos, mul_neg, mul_pos}
 use Rattle.least_index.proofs.Sums.{sum-zero, sum-ext, at_place, sum-at_place}
@@ -57,7 +57,7 @@ no_term_of true d e c h = refl
 no_term_of false true e c h = absurd (false≢true h)
 no_term_of false false e c h = mul_zero e
 
-pub same_constants : (t other : System) → Covers t other → (v : ℕ) → v < t.size → t.is_basic v ≡ true
+pub same_constants : (t other : RationalDictionary) → Covers t other → (v : ℕ) → v < t.size → t.is_basic v ≡ true
     → other.scale *ℤ t.constant v ≡ other.constant v *ℤ t.scale
 same_constants t other c v lt b =
     let within : v < other.size = omega (arith, c.size) in
@@ -69,7 +69,7 @@ same_constants t other c v lt b =
     ∙ equation ∙ zero_after (other.constant v *ℤ t.scale) (sum_below (term other v (basic_solution t)) other.size) none
 
 -- the solution in which of the variables that are not basic just w is not 0, and so is the constant 1
-abbrev pub unit_solution : System → ℕ → ℕ → ℤ
+abbrev pub unit_solution : RationalDictionary → ℕ → ℕ → ℤ
 unit_solution t w v = cond (t.is_basic v) (t.entry v w) (cond (v == w) t.scale (pos 0))
 
 unit_term : (b d e : Bool) (entry at basic scale : ℤ) → b ≡ d → (e ≡ true → (b ≡ false) × (entry ≡ at))
@@ -83,7 +83,7 @@ unit_term false false false entry at basic scale h k = mul_zero entry
 zero_before : (a b : ℤ) → a *ℤ pos 0 +ℤ b ≡ b
 zero_before a b = omega (arith, sums, mul_zero a)
 
-unit_sum : (t u : System) (w v : ℕ) → u.size ≡ t.size → ((j : ℕ) → j < t.size → u.is_basic j ≡ t.is_basic j) → w < t.size → t.is_basic w ≡ false
+unit_sum : (t u : RationalDictionary) (w v : ℕ) → u.size ≡ t.size → ((j : ℕ) → j < t.size → u.is_basic j ≡ t.is_basic j) → w < t.size → t.is_basic w ≡ false
     → right_side u (pos 0) (unit_solution t w) v ≡ u.entry v w *ℤ t.scale
 unit_sum t u w v size basis lt free =
     let within : w < u.size = omega (arith, size) in
@@ -95,7 +95,7 @@ unit_sum t u w v size basis lt free =
     zero_before (u.constant v) (sum_below (term u v (unit_solution t w)) u.size)
     ∙ pointwise ∙ sum-at_place w (u.entry v w *ℤ t.scale) u.size within
 
-unit_solution_satisfies : (t : System) (w : ℕ) → w < t.size → t.is_basic w ≡ false → Satisfies t (pos 0) (unit_solution t w)
+unit_solution_satisfies : (t : RationalDictionary) (w : ℕ) → w < t.size → t.is_basic w ≡ false → IsSolution t (pos 0) (unit_solution t w)
 unit_solution_satisfies t w lt free = record {
   each = λ v l b.
       ap (λ (n : ℤ). t.scale *ℤ n) (cond-true (t.is_basic v) (t.entry v w) (cond (v == w) t.scale (pos 0)) b)
@@ -103,7 +103,7 @@ unit_solution_satisfies t w lt free = record {
       ∙ sym (unit_sum t t w v refl (λ j k. refl) lt free);
 }
 
-pub same_entries : (t other : System) → Covers t other → (v w : ℕ) → v < t.size → t.is_basic v ≡ true → w < t.size → t.is_basic w ≡ false
+pub same_entries : (t other : RationalDictionary) → Covers t other → (v w : ℕ) → v < t.size → t.is_basic v ≡ true → w < t.size → t.is_basic w ≡ false
     → other.scale *ℤ t.entry v w ≡ other.entry v w *ℤ t.scale
 same_entries t other c v w lt b l free =
     let within : v < other.size = omega (arith, c.size) in
@@ -125,7 +125,7 @@ not_and_same true b false d e h = absurd (true≢false e)
 not_and_same false b true d e h = absurd (false≢true e)
 not_and_same false b false d e h = h refl
 
-pub same_leaving : (t other : System) → Covers t other → leaving t ≡ leaving other
+pub same_leaving : (t other : RationalDictionary) → Covers t other → leaving t ≡ leaving other
 unfolding leaving
 same_leaving t other c =
     first-ext (is_infeasible t) (is_infeasible other) t.size
@@ -133,11 +133,11 @@ same_leaving t other c =
     (λ b. same_negative (t.constant v) (other.constant v) other.scale t.scale c.other_positive c.positive (same_constants t other c v lt b)))
     ∙ ap (first (is_infeasible other)) (sym c.size)
 
-leaving_basic : (t : System) → leaving t < t.size → t.is_basic (leaving t) ≡ true
+leaving_basic : (t : RationalDictionary) → leaving t < t.size → t.is_basic (leaving t) ≡ true
 unfolding leaving
 leaving_basic t lt = and_left (t.is_basic (leaving t)) (int_lt (t.constant (leaving t)) (pos 0)) (first-passes (is_infeasible t) t.size lt)
 
-pub same_entering : (t other : System) → Covers t other → leaving t < t.size → entering t ≡ entering other
+pub same_entering : (t other : RationalDictionary) → Covers t other → leaving t < t.size → entering t ≡ entering other
 unfolding entering
 same_entering t other c within =
     first-ext (helps t (leaving t)) (helps other (leaving t)) t.size
@@ -152,11 +152,11 @@ end_step n m k l i j size left right =
     (and_same (nat_lt k n) (nat_lt i n) (nat_lt l m) (nat_lt j m) (ap (λ (x : ℕ). nat_lt x n) (sym left) ∙ ap (nat_lt l) (sym size))
     (λ e. ap (λ (x : ℕ). nat_lt x n) (sym (right (ltb-true k n e))) ∙ ap (nat_lt j) (sym size)))
 
-pub same_end : (t other : System) → Covers t other → is_end t ≡ is_end other
+pub same_end : (t other : RationalDictionary) → Covers t other → is_end t ≡ is_end other
 same_end t other c =
     end_step t.size other.size (leaving t) (leaving other) (entering t) (entering other) c.size (sym (same_leaving t other c)) (λ lt. sym (same_entering t other c lt))
 
-same_next : (t other : System) → Covers t other → is_end t ≡ false → Covers (next t) (next other)
+same_next : (t other : RationalDictionary) → Covers t other → is_end t ≡ false → Covers (next t) (next other)
 unfolding next
 same_next t other c going =
     let still : is_end other ≡ false = sym (same_end t other c) ∙ going in
@@ -181,7 +181,7 @@ count_step true false m n e h = absurd (true≢false e)
 count_step false true m n e h = absurd (false≢true e)
 count_step false false m n e h = ap suc (h refl)
 
-pub same_pivots : (n : ℕ) (t other : System) → Covers t other → pivots_within n t ≡ pivots_within n other
+pub same_pivots : (n : ℕ) (t other : RationalDictionary) → Covers t other → pivots_within n t ≡ pivots_within n other
 unfolding pivots_within
 same_pivots zero t other c = refl
 same_pivots (suc n) t other c =

@@ -4,7 +4,7 @@ use Rattle.std.specs.Prelude.{nat_lt, ◌==◌}
 use Rattle.std.proofs.Math.Nat.{two-pow-succ}
 use Rattle.std.proofs.lemmas.Nat.{pow_pos}
 use Rattle.std.proofs.lemmas.Bool.{cond-true, cond-false, cases_Bool, ltb-true, ltb-false, eq-eqb, eqb-true, true≢false, false≢true, false_from_ne_true}
-use Rattle.least_index.specs.System.{System, Satisfies}
+use Rattle.least_index.specs.Dictionary.{RationalDictionary, IsSolution}
 use Rattle.least_index.specs.Rule.{first, leaving, entering, is_end, next}
 use Rattle.least_index.proofs.First.{first-below, first-passes}
 use Rattle.least_index.proofs.Exchange.{exchange_keeps, exchange_reflects}
@@ -12,50 +12,50 @@ use Rattle.least_index.proofs.Choice.{IsChoice, chosen, choice_is_exchange, next
 use Rattle.least_index.proofs.Opposed.{not_opposed}
 
 -- n pivots by the rule, one after another
-pub record IsRun (at : ℕ → System) (n : ℕ) : Type 0 where
+pub record IsRun (at : ℕ → RationalDictionary) (n : ℕ) : Type 0 where
   pub positive : pos 0 <ℤ (at 0).scale
   pub going : (i : ℕ) → i < n → is_end (at i) ≡ false
   pub step : (i : ℕ) → i < n → at (suc i) ≡ next (at i)
 
 -- the m pivots from a on exchange only variables below k
-abbrev pub IsStretch : (ℕ → System) → ℕ → ℕ → ℕ → Type 0
+abbrev pub IsStretch : (ℕ → RationalDictionary) → ℕ → ℕ → ℕ → Type 0
 IsStretch at k a m = (i : ℕ) → i < m → (entering (at (a + i)) < k) × (leaving (at (a + i)) < k)
 
-scale_of : (at : ℕ → System) (n : ℕ) → IsRun at n → (i : ℕ) → i ≤ n → pos 0 <ℤ (at i).scale
+scale_of : (at : ℕ → RationalDictionary) (n : ℕ) → IsRun at n → (i : ℕ) → i ≤ n → pos 0 <ℤ (at i).scale
 scale_of at n run zero h = run.positive
 scale_of at n run (suc i) h =
-    subst (λ (t : System). pos 0 <ℤ t.scale) (sym (run.step i (omega arith))) (next_scale (at i) (scale_of at n run i (omega arith)) (run.going i (omega arith)))
+    subst (λ (t : RationalDictionary). pos 0 <ℤ t.scale) (sym (run.step i (omega arith))) (next_scale (at i) (scale_of at n run i (omega arith)) (run.going i (omega arith)))
 
-size_of : (at : ℕ → System) (n : ℕ) → IsRun at n → (i : ℕ) → i ≤ n → (at i).size ≡ (at 0).size
+size_of : (at : ℕ → RationalDictionary) (n : ℕ) → IsRun at n → (i : ℕ) → i ≤ n → (at i).size ≡ (at 0).size
 size_of at n run zero h = refl
 size_of at n run (suc i) h =
-    ap (λ (t : System). t.size) (run.step i (omega arith)) ∙ next_size (at i) ∙ size_of at n run i (omega arith)
+    ap (λ (t : RationalDictionary). t.size) (run.step i (omega arith)) ∙ next_size (at i) ∙ size_of at n run i (omega arith)
 
-from_start : (at : ℕ → System) (n : ℕ) → IsRun at n → (one : ℤ) (x : ℕ → ℤ) (i : ℕ) → i ≤ n → Satisfies (at 0) one x → Satisfies (at i) one x
+from_start : (at : ℕ → RationalDictionary) (n : ℕ) → IsRun at n → (one : ℤ) (x : ℕ → ℤ) (i : ℕ) → i ≤ n → IsSolution (at 0) one x → IsSolution (at i) one x
 unfolding next
 from_start at n run one x zero h sat = sat
 from_start at n run one x (suc i) h sat =
-    subst (λ (t : System). Satisfies t one x) (sym (run.step i (omega arith)))
+    subst (λ (t : RationalDictionary). IsSolution t one x) (sym (run.step i (omega arith)))
     (exchange_keeps (at i) (leaving (at i)) (entering (at i)) one x (choice_is_exchange (at i) (scale_of at n run i (omega arith)) (run.going i (omega arith)))
     (from_start at n run one x i (omega arith) sat))
 
-to_start : (at : ℕ → System) (n : ℕ) → IsRun at n → (one : ℤ) (x : ℕ → ℤ) (i : ℕ) → i ≤ n → Satisfies (at i) one x → Satisfies (at 0) one x
+to_start : (at : ℕ → RationalDictionary) (n : ℕ) → IsRun at n → (one : ℤ) (x : ℕ → ℤ) (i : ℕ) → i ≤ n → IsSolution (at i) one x → IsSolution (at 0) one x
 unfolding next
 to_start at n run one x zero h sat = sat
 to_start at n run one x (suc i) h sat =
     to_start at n run one x i (omega arith)
     (exchange_reflects (at i) (leaving (at i)) (entering (at i)) one x (choice_is_exchange (at i) (scale_of at n run i (omega arith)) (run.going i (omega arith)))
-    (subst (λ (t : System). Satisfies t one x) (run.step i (omega arith)) sat))
+    (subst (λ (t : RationalDictionary). IsSolution t one x) (run.step i (omega arith)) sat))
 
 -- what one pivot does to a variable's being basic
-basic_after : (at : ℕ → System) (n : ℕ) → IsRun at n → (i v : ℕ) → i < n → (at (suc i)).is_basic v ≡ cond (v == entering (at i)) true (cond (v == leaving (at i)) false ((at i).is_basic v))
-basic_after at n run i v h = ap (λ (t : System). t.is_basic v) (run.step i h) ∙ next_basic (at i) v
+basic_after : (at : ℕ → RationalDictionary) (n : ℕ) → IsRun at n → (i v : ℕ) → i < n → (at (suc i)).is_basic v ≡ cond (v == entering (at i)) true (cond (v == leaving (at i)) false ((at i).is_basic v))
+basic_after at n run i v h = ap (λ (t : RationalDictionary). t.is_basic v) (run.step i h) ∙ next_basic (at i) v
 
 differs : (a b : ℕ) → a ≢ b → (b == a) ≡ false
 differs a b ne = false_from_ne_true (b == a) (λ e. ne (sym (eqb-true b a e)))
 
 -- a variable that no pivot of a stretch exchanges stays basic, or stays not basic
-stays : (at : ℕ → System) (n : ℕ) → IsRun at n → (v a m : ℕ) → a + m ≤ n
+stays : (at : ℕ → RationalDictionary) (n : ℕ) → IsRun at n → (v a m : ℕ) → a + m ≤ n
     → ((i : ℕ) → i < m → (entering (at (a + i)) ≢ v) × (leaving (at (a + i)) ≢ v))
     → (at (a + m)).is_basic v ≡ (at a).is_basic v
 stays at n run v a zero h none = let e : a + zero ≡ a = omega arith in ap (λ (i : ℕ). (at i).is_basic v) e
@@ -70,7 +70,7 @@ stays at n run v a (suc m) h none =
     ∙ stays at n run v a m (omega arith) (λ i l. none i (omega arith))
 
 -- in a stretch of variables up to k, k does not enter at one pivot and leave at another
-enters_or_leaves : (at : ℕ → System) (n : ℕ) → IsRun at n → (k a m i j : ℕ) → a + m ≤ n → IsStretch at (suc k) a m → i < m → j < m
+enters_or_leaves : (at : ℕ → RationalDictionary) (n : ℕ) → IsRun at n → (k a m i j : ℕ) → a + m ≤ n → IsStretch at (suc k) a m → i < m → j < m
     → entering (at (a + i)) ≡ k → leaving (at (a + j)) ≡ k → ⊥
 enters_or_leaves at n run k a m i j h stretch li lj enters leaves =
     not_opposed (at (a + i)) (at (a + j)) (leaving (at (a + i))) k k (entering (at (a + j)))
@@ -89,7 +89,7 @@ enters_or_leaves at n run k a m i j h stretch li lj enters leaves =
         not_it w gt v lt e = omega arith
 
 -- the pivot exchanges k
-abbrev exchanges : (ℕ → System) → ℕ → ℕ → ℕ → Bool
+abbrev exchanges : (ℕ → RationalDictionary) → ℕ → ℕ → ℕ → Bool
 exchanges at k a i = (entering (at (a + i)) == k) || (leaving (at (a + i)) == k)
 
 neither : (x y k : ℕ) → ((x == k) || (y == k)) ≡ false → (x ≢ k) × (y ≢ k)
@@ -112,7 +112,7 @@ either x y k h = from (x == k) (y == k) refl refl h
     from false false e f h = absurd (false≢true h)
 
 -- a part of a stretch before its first exchange of k
-smaller : (at : ℕ → System) (k a m i : ℕ) → IsStretch at (suc k) a m → i ≤ m → ((j : ℕ) → j < i → exchanges at k a j ≡ false) → IsStretch at k a i
+smaller : (at : ℕ → RationalDictionary) (k a m i : ℕ) → IsStretch at (suc k) a m → i ≤ m → ((j : ℕ) → j < i → exchanges at k a j ≡ false) → IsStretch at k a i
 smaller at k a m i stretch le none j lt =
     let ne : (entering (at (a + j)) ≢ k) × (leaving (at (a + j)) ≢ k) = neither (entering (at (a + j))) (leaving (at (a + j))) k (none j lt) in
     let bounds : (entering (at (a + j)) < suc k) × (leaving (at (a + j)) < suc k) = stretch j (omega arith) in
@@ -122,13 +122,13 @@ smaller at k a m i stretch le none j lt =
     below v k lt ne = omega arith
 
 -- a stretch from a later pivot on
-later : (at : ℕ → System) (k a m i : ℕ) → IsStretch at k a m → i ≤ m → IsStretch at k (a + i) (m - i)
+later : (at : ℕ → RationalDictionary) (k a m i : ℕ) → IsStretch at k a m → i ≤ m → IsStretch at k (a + i) (m - i)
 later at k a m i stretch le j lt =
     let e : a + (i + j) ≡ a + i + j = omega arith in
     subst (λ (o : ℕ). (entering (at o) < k) × (leaving (at o) < k)) e (stretch (i + j) (omega arith))
 
 -- after one exchange of k there is no other
-once : (at : ℕ → System) (n : ℕ) → IsRun at n → (k a m i j : ℕ) → a + m ≤ n → IsStretch at (suc k) a m → i < m → i + 1 + j < m
+once : (at : ℕ → RationalDictionary) (n : ℕ) → IsRun at n → (k a m i j : ℕ) → a + m ≤ n → IsStretch at (suc k) a m → i < m → i + 1 + j < m
     → exchanges at k a i ≡ true → exchanges at k (a + (i + 1)) j ≡ true → ((o : ℕ) → o < j → exchanges at k (a + (i + 1)) o ≡ false) → ⊥
 once at n run k a m i j h stretch li lj here there between =
     first_case (either (entering (at (a + i))) (leaving (at (a + i))) k here)
@@ -176,7 +176,7 @@ once at n run k a m i j h stretch li lj here there between =
     first_case (inr e) = third_case e again
 
 -- a stretch is two of smaller variables, and one pivot between them at most
-longer : (at : ℕ → System) (n : ℕ) → IsRun at n → (k : ℕ) → ((a m : ℕ) → a + m ≤ n → IsStretch at k a m → m < 2 ^ k)
+longer : (at : ℕ → RationalDictionary) (n : ℕ) → IsRun at n → (k : ℕ) → ((a m : ℕ) → a + m ≤ n → IsStretch at k a m → m < 2 ^ k)
     → (a m : ℕ) → a + m ≤ n → IsStretch at (suc k) a m → m < 2 ^ suc k
 longer at n run k short a m h stretch = found (first (exchanges at k a) m) refl (cases_Bool (nat_lt (first (exchanges at k a) m) m))
   where
@@ -210,13 +210,13 @@ longer at n run k short a m h stretch = found (first (exchanges at k a) m) refl 
         let few : m < 2 ^ k = short a m h (smaller at k a m m stretch (omega arith) (λ j lt. first-below (exchanges at k a) m j (omega arith))) in
         omega (arith, double)
 
-pub stretch_is_short : (at : ℕ → System) (n : ℕ) → IsRun at n → (k a m : ℕ) → a + m ≤ n → IsStretch at k a m → m < 2 ^ k
+pub stretch_is_short : (at : ℕ → RationalDictionary) (n : ℕ) → IsRun at n → (k a m : ℕ) → a + m ≤ n → IsStretch at k a m → m < 2 ^ k
 stretch_is_short at n run zero a zero h stretch = pow_pos 0
 stretch_is_short at n run zero a (suc m) h stretch = absurd (let lt : entering (at (a + 0)) < 0 = (stretch 0 (omega arith)).0 in omega arith)
 stretch_is_short at n run (suc k) a m h stretch = longer at n run k (stretch_is_short at n run k) a m h stretch
 
 -- a run has fewer than 2^size pivots
-pub run_is_short : (at : ℕ → System) (n : ℕ) → IsRun at n → n < 2 ^ (at 0).size
+pub run_is_short : (at : ℕ → RationalDictionary) (n : ℕ) → IsRun at n → n < 2 ^ (at 0).size
 run_is_short at n run = stretch_is_short at n run (at 0).size 0 n (omega arith) within
   where
     within : IsStretch at (at 0).size 0 n

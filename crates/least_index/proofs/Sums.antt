@@ -4,7 +4,7 @@ use Rattle.std.specs.Prelude.{◌==◌}
 use Rattle.std.proofs.lemmas.Int.{ints}
 use Rattle.std.proofs.lemmas.Bool.{cond-false, eqb-true, eqb-false, false_from_ne_true}
 use Rattle.minors.proofs.Ring.{sums, mul-add, mul_zero}
-use Rattle.least_index.specs.System.{sum_below}
+use Rattle.least_index.specs.Dictionary.{sum_below}
 
 pub sum-ext : (f g : ℕ → ℤ) (n : ℕ) → ((w : ℕ) → w < n → f w ≡ g w) → sum_below f n ≡ sum_below g n
 unfolding sum_below

@@ -1,3 +1,3 @@
-pub mod System
+pub mod Dictionary
 pub mod Rule
 pub mod Laws

@@ -1,6 +1,6 @@
--- The least-index rule for pivots (Bland 1977), for systems whose basic variables are to become at least 0.
+-- The least-index rule for pivots (Bland 1977), for dictionaries whose basic variables are to become at least 0.
 use Rattle.std.specs.Prelude.{◌≡◌, ℕ, zero, suc, ◌^◌, ◌<◌, Bool, cond, not, ◌&&◌, nat_lt, int_lt, ℤ, pos, ◌<ℤ◌}
-use Rattle.least_index.specs.System.{System, Satisfies, exchanged}
+use Rattle.least_index.specs.Dictionary.{RationalDictionary, IsSolution, exchanged}
 
 -- the least number below n that passes the test, or n
 unfoldable pub first : (ℕ → Bool) → ℕ → ℕ
@@ -8,41 +8,41 @@ first test zero = zero
 first test (suc n) = cond (nat_lt (first test n) n) (first test n) (cond (test n) n (suc n))
 
 -- a basic variable that is below 0 where the variables that are not basic are 0
-abbrev pub is_infeasible : System → ℕ → Bool
-is_infeasible t v = t.is_basic v && int_lt (t.constant v) (pos 0)
+abbrev pub is_infeasible : RationalDictionary → ℕ → Bool
+is_infeasible d v = d.is_basic v && int_lt (d.constant v) (pos 0)
 
 -- a variable that is not basic and helps v, which rises with it
-abbrev pub helps : System → ℕ → ℕ → Bool
-helps t v w = not (t.is_basic w) && int_lt (pos 0) (t.entry v w)
+abbrev pub helps : RationalDictionary → ℕ → ℕ → Bool
+helps d v w = not (d.is_basic w) && int_lt (pos 0) (d.entry v w)
 
 -- the least infeasible variable leaves the basis, and the least one that helps it enters
-unfoldable pub leaving : System → ℕ
-leaving t = first (is_infeasible t) t.size
+unfoldable pub leaving : RationalDictionary → ℕ
+leaving d = first (is_infeasible d) d.size
 
-unfoldable pub entering : System → ℕ
-entering t = first (helps t (leaving t)) t.size
+unfoldable pub entering : RationalDictionary → ℕ
+entering d = first (helps d (leaving d)) d.size
 
 -- the rule names no pivot
-abbrev pub is_end : System → Bool
-is_end t = not (nat_lt (leaving t) t.size && nat_lt (entering t) t.size)
+abbrev pub is_end : RationalDictionary → Bool
+is_end d = not (nat_lt (leaving d) d.size && nat_lt (entering d) d.size)
 
--- the system after the rule's pivot
-unfoldable pub next : System → System
-next t = exchanged t (leaving t) (entering t)
+-- the dictionary after the rule's pivot
+unfoldable pub next : RationalDictionary → RationalDictionary
+next d = exchanged d (leaving d) (entering d)
 
 -- how many pivots the rule makes from here, of which n at most are counted
-unfoldable pub pivots_within : ℕ → System → ℕ
-pivots_within zero t = zero
-pivots_within (suc n) t = cond (is_end t) zero (suc (pivots_within n (next t)))
+unfoldable pub pivots_within : ℕ → RationalDictionary → ℕ
+pivots_within zero d = zero
+pivots_within (suc n) d = cond (is_end d) zero (suc (pivots_within n (next d)))
 
 -- how many pivots the rule makes from here
-abbrev pub pivots_left : System → ℕ
-pivots_left t = pivots_within (2 ^ t.size) t
+abbrev pub pivots_left : RationalDictionary → ℕ
+pivots_left d = pivots_within (2 ^ d.size) d
 
--- two systems of one basis, where the second holds of all that satisfies the first
-pub record Covers (t other : System) : Type 0 where
-  pub size : other.size ≡ t.size
-  pub basis : (v : ℕ) → v < t.size → other.is_basic v ≡ t.is_basic v
-  pub positive : pos 0 <ℤ t.scale
+-- two dictionaries of one basis, where the second holds of all that satisfies the first
+pub record Covers (d other : RationalDictionary) : Type 0 where
+  pub size : other.size ≡ d.size
+  pub basis : (v : ℕ) → v < d.size → other.is_basic v ≡ d.is_basic v
+  pub positive : pos 0 <ℤ d.scale
   pub other_positive : pos 0 <ℤ other.scale
-  pub solutions : (one : ℤ) (x : ℕ → ℤ) → Satisfies t one x → Satisfies other one x
+  pub solutions : (one : ℤ) (x : ℕ → ℤ) → IsSolution d one x → IsSolution other one x

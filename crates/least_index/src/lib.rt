@@ -1,5 +1,5 @@
 //! The least-index rule for pivots ends. No function pivots: each states laws, which hold by its
-//! contract for systems of any size.
+//! contract for dictionaries of any size.
 #![tactic(auto)]
 
 ghost use Rattle.least_index.specs.Laws.{PivotsFall, RuleEnds};

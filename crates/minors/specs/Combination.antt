@@ -23,7 +23,7 @@ pub record IsScale (scale : ℤ) (rows : List (List ℤ)) : Type 0 where
   pub size : unsigned_abs scale ≡ unsigned_abs (minor rows)
 
 -- the factors of a row after the square's row at `place` is exchanged for the pivot row: that at `place` stays, and the scale divides each other exactly
-pub record IsPivoted (scale : ℤ) (place : ℕ) (pivot factors new : List ℤ) : Type 0 where
+pub record ExchangesFactors (scale : ℤ) (place : ℕ) (pivot factors new : List ℤ) : Type 0 where
   pub len : length new ≡ length factors
   pub kept : entry new place ≡ entry factors place
   pub divided : (other : ℕ) → other < length factors → other ≢ place

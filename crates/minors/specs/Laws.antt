@@ -1,7 +1,7 @@
 -- The laws of minors, each over squares of any order.
 use Rattle.std.specs.Prelude.{ℕ, ◌*◌, ◌^◌, ◌<◌, ◌≤◌, ◌≡◌, ◌≢◌, ℤ, pos, neg_ℤ, ◌+ℤ◌, ◌-ℤ◌, ◌*ℤ◌, unsigned_abs, List, [], length, map, slice_set, slice_index_or, All}
 use Rattle.minors.specs.Minor.{entry, minor, factorial, IsUnit, HasSmallEntries}
-use Rattle.minors.specs.Combination.{dot, IsCombination, IsScale, IsPivoted, IsLeaving}
+use Rattle.minors.specs.Combination.{dot, IsCombination, IsScale, ExchangesFactors, IsLeaving}
 
 -- a minor is linear in each row: where a row is x times one row plus y times another, so are the minors
 abbrev pub LinearInEachRow : Type 0
@@ -81,7 +81,7 @@ PivotKeepsCombination =
     → IsCombination scale entering pivot rows
     → IsCombination scale row factors rows
     → place < length rows
-    → IsPivoted scale place pivot factors new
+    → ExchangesFactors scale place pivot factors new
     → IsCombination (entry pivot place) row new (slice_set rows place entering)
 
 -- and so is the row that leaves the square

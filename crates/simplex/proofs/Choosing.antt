@@ -2,19 +2,19 @@
 use Rattle.std.proofs.Common.{◌≡◌, ℕ, ◌+◌, ◌-◌, ◌<◌, ◌≤◌, List, length, Option, Some, None, MatchOption, ◌⊎◌, inl, inr, ℤ, pos, ◌<ℤ◌, ◌≤ℤ◌, refl, sym, ap, subst, ◌∙◌, arith, true, false}
 use Rattle.std.specs.Prelude.{slice_index, int_lt}
 use Rattle.std.proofs.lemmas.Int.{ints, by_lt_z}
-use Rattle.fraction_free.specs.Tableau.{Tableau, IsDictionary}
-use Rattle.simplex.specs.Choice.{constant_of, entry_of, IsFeasible, IsLeavingRow}
+use Rattle.fraction_free.specs.Dictionary.{DictionaryView, IsDictionary, constant_in, entry_in}
+use Rattle.simplex.specs.Choice.{IsFeasible, IsLeavingRow}
 use Rattle.simplex.proofs.Variables.{HasVariables, variables_of}
 
 nonneg_if : (a : ℤ) → (a <ℤ pos 0 → ⊥) → pos 0 ≤ℤ a
 nonneg_if a h = by_lt_z a (pos 0) (λ l. absurd (h l)) (λ l. l)
 
-pub leaving_done : (d : Tableau) (found : Option ℕ) (least at : ℕ) → IsDictionary d → at ≡ length d.loaded
-    → ((other : ℕ) → other < at → constant_of d other <ℤ pos 0 → least ≤ slice_index d.basic other)
-    → MatchOption found (least ≡ 4294967295) (λ row. (1 ≤ row) × (row ≤ at) × (constant_of d (row - 1) <ℤ pos 0) × (least ≡ slice_index d.basic (row - 1)))
+pub leaving_done : (d : DictionaryView) (found : Option ℕ) (least at : ℕ) → IsDictionary d → at ≡ length d.loaded
+    → ((other : ℕ) → other < at → constant_in d other <ℤ pos 0 → least ≤ slice_index d.basic other)
+    → MatchOption found (least ≡ 4294967295) (λ row. (1 ≤ row) × (row ≤ at) × (constant_in d (row - 1) <ℤ pos 0) × (least ≡ slice_index d.basic (row - 1)))
     → MatchOption found (IsFeasible d) (λ row. (1 ≤ row) × IsLeavingRow d (row - 1))
 leaving_done d None least at is end below none =
-    λ row lt. nonneg_if (constant_of d row) (λ neg.
+    λ row lt. nonneg_if (constant_in d row) (λ neg.
     let high = (variables_of d is).basic_high row lt in
     let le : least ≤ slice_index d.basic row = below row (omega arith) neg in
     omega (arith, is.columns_most, is.columns_room, is.rows_room, is.rows_most, none, high, le))

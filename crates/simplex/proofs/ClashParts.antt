@@ -10,14 +10,14 @@ use Rattle.std.proofs.lemmas.List.FromFn.{get_or-map-range_with_len, length-map-
 use Rattle.std.proofs.lemmas.List.Elements.{All-from_get_or}
 use Rattle.minors.proofs.Ring.{sums, mul-add, mul-neg, mul_zero, zero_mul, one_mul}
 use Rattle.criteria_model.specs.Rows.{dot}
-use Rattle.least_index.specs.System.{sum_below}
+use Rattle.least_index.specs.Dictionary.{sum_below}
 use Rattle.least_index.proofs.Sums.{sum-ext, at_place, sum-at_place}
 use Rattle.least_index.proofs.Signs.{mul_nonneg, nonneg_of_pos}
 use Rattle.fraction_free.specs.declared.loaded.LoadedRow.{LoadedRow}
-use Rattle.fraction_free.specs.Tableau.{Tableau, IsDictionary, loaded_at}
+use Rattle.fraction_free.specs.Dictionary.{DictionaryView, IsDictionary, loaded_at, constant_in}
 use Rattle.simplex.specs.declared.row_weights.RowWeight.{RowWeight}
 use Rattle.simplex.specs.Weights.{is_weight, IsRowWeight, AreRowWeights, weighted}
-use Rattle.simplex.specs.Choice.{constant_of, IsBlocked}
+use Rattle.simplex.specs.Choice.{IsBlocked}
 use Rattle.simplex.specs.Equation.{weight_of, how_many, has_slack, HasSlackWeights}
 use Rattle.simplex.specs.Rows.{MeetsRows}
 use Rattle.simplex.specs.Results.{IsClash, IsStrictRow, coefficient}
@@ -54,10 +54,10 @@ mul_one : (a : ℤ) → a *ℤ pos 1 ≡ a
 mul_one a = *ℤ_comm a (pos 1) ∙ one_mul a
 
 -- a clash's facts
-pub record HasWeights (d : Tableau) (row : ℕ) (increments : List ℤ) (rows : List RowWeight) : Type 0 where
+pub record HasWeights (d : DictionaryView) (row : ℕ) (increments : List ℤ) (rows : List RowWeight) : Type 0 where
   pub dictionary : IsDictionary d
   pub within : row < length d.loaded
-  pub negative : constant_of d row <ℤ pos 0
+  pub negative : constant_in d row <ℤ pos 0
   pub blocked : IsBlocked d row
   pub len : length increments ≡ d.columns
   pub own : (column : ℕ) → column < d.columns → get_or increments column (pos 0) ≡ weight_of d row (column + 1)
@@ -67,24 +67,24 @@ pub record HasWeights (d : Tableau) (row : ℕ) (increments : List ℤ) (rows : 
   pub few_own : count_by is_weight increments ≤ how_many (λ place. not (has_slack d row place)) (d.columns + 1)
   pub few_rows : length rows ≤ how_many (has_slack d row) (d.columns + 1)
 
-own_nonneg : (d : Tableau) (row : ℕ) (increments : List ℤ) (rows : List RowWeight) → HasWeights d row increments rows → (k : ℕ) → k < d.columns → pos 0 ≤ℤ get_or increments k (pos 0)
+own_nonneg : (d : DictionaryView) (row : ℕ) (increments : List ℤ) (rows : List RowWeight) → HasWeights d row increments rows → (k : ℕ) → k < d.columns → pos 0 ≤ℤ get_or increments k (pos 0)
 own_nonneg d row increments rows has k lt =
     subst (λ (n : ℤ). pos 0 ≤ℤ n) (sym (has.own k lt)) (weight_of-nonneg d has.dictionary row (k + 1) has.within has.blocked)
 
 -- no vector meets the rows
-pub unmet : (d : Tableau) (row : ℕ) (increments : List ℤ) (rows : List RowWeight) → HasWeights d row increments rows → (vector : List ℤ) → MeetsRows d.columns d.loaded vector → ⊥
+pub unmet : (d : DictionaryView) (row : ℕ) (increments : List ℤ) (rows : List RowWeight) → HasWeights d row increments rows → (vector : List ℤ) → MeetsRows d.columns d.loaded vector → ⊥
 unmet d row increments rows has vector meets =
     impossible
     (sum_below (λ k. get_or increments k (pos 0) *ℤ (get_or vector k (pos 0) -ℤ pos 1)) d.columns)
     (weighted (λ r. dot (loaded_at d.loaded (r - 1)).coefficients vector -ℤ (loaded_at d.loaded (r - 1)).least *ℤ pos 1) rows)
-    (constant_of d row)
+    (constant_in d row)
     (sum_nonneg (λ k. get_or increments k (pos 0) *ℤ (get_or vector k (pos 0) -ℤ pos 1)) d.columns
     (λ k lt. mul_nonneg (get_or increments k (pos 0)) (get_or vector k (pos 0) -ℤ pos 1) (own_nonneg d row increments rows has k lt)
     (less (get_or vector k (pos 0)) (meets.positive k (pos 0) (omega (arith, meets.len))))))
     (weighted_nonneg (λ r. dot (loaded_at d.loaded (r - 1)).coefficients vector -ℤ (loaded_at d.loaded (r - 1)).least *ℤ pos 1) rows has.weights.each
     (λ k x lt. slack_nonneg ((slice_index_or rows k x).row) (has.weights.each k x lt).numbered (has.loaded_rows k x lt)))
     has.negative
-    (weights_at_vector d has.dictionary row increments rows vector (pos 1) has.within meets.len has.own has.slacks has.weights.each ∙ mul_one (constant_of d row))
+    (weights_at_vector d has.dictionary row increments rows vector (pos 1) has.within meets.len has.own has.slacks has.weights.each ∙ mul_one (constant_in d row))
   where
     less : (a : ℤ) → pos 1 ≤ℤ a → pos 0 ≤ℤ (a -ℤ pos 1)
     less a h = omega (arith, ints)
@@ -130,7 +130,7 @@ dot_unit columns j xs len lt =
     ∙ times_plain_unit (k == j) (get_or xs k (pos 0)) (get_or xs j (pos 0)) (λ e. ap (λ (n : ℕ). get_or xs n (pos 0)) (eqb-true k j e)))
     ∙ sum-at_place j (get_or xs j (pos 0)) columns lt
 
-pub column_sum : (d : Tableau) (row : ℕ) (increments : List ℤ) (rows : List RowWeight) → HasWeights d row increments rows → (column : ℕ) → column < d.columns
+pub column_sum : (d : DictionaryView) (row : ℕ) (increments : List ℤ) (rows : List RowWeight) → HasWeights d row increments rows → (column : ℕ) → column < d.columns
     → get_or increments column (pos 0) +ℤ weighted (coefficient d.loaded column) rows ≡ pos 0
 column_sum d row increments rows has column lt =
     ap (λ (s : ℤ). s +ℤ weighted (coefficient d.loaded column) rows)
@@ -142,7 +142,7 @@ column_sum d row increments rows has column lt =
     (sym (weighted_same (λ r. dot (loaded_at d.loaded (r - 1)).coefficients (unit_vector d.columns column) -ℤ (loaded_at d.loaded (r - 1)).least *ℤ pos 0) (coefficient d.loaded column) rows
     (λ k x l. at_row ((slice_index_or rows k x).row) (has.weights.each k x l).numbered (has.loaded_rows k x l))))
     ∙ weights_at_vector d has.dictionary row increments rows (unit_vector d.columns column) (pos 0) has.within (unit_len d.columns column) has.own has.slacks has.weights.each
-    ∙ mul_zero (constant_of d row)
+    ∙ mul_zero (constant_in d row)
   where
     minus_zero : (a b : ℤ) → b ≡ pos 0 → a -ℤ b ≡ a
     minus_zero a b e = omega (arith, sums)
@@ -194,14 +194,14 @@ any_row loaded (x ∷ rows) leasts h =
         (suc f.0, f.1, (let l = f.2 in omega arith), f.3, f.4)
     from others (inr e) = (0, x, omega arith, refl, e)
 
-pub has_strict : (d : Tableau) (row : ℕ) (increments : List ℤ) (rows : List RowWeight) → HasWeights d row increments rows
+pub has_strict : (d : DictionaryView) (row : ℕ) (increments : List ℤ) (rows : List RowWeight) → HasWeights d row increments rows
     → Any (λ weight. pos 0 <ℤ weight) increments ⊎ Any (IsStrictRow d.loaded) rows
 has_strict d row increments rows has =
     by_lt_z (pos 0) (sum_below (λ k. get_or increments k (pos 0)) d.columns)
     (λ some. inl (any_increment increments d.columns (omega (arith, has.len)) some))
     (λ none. inr (any_row d.loaded rows
     (λ k x lt. (has.dictionary.rows ((slice_index_or rows k x).row - 1) (let n = (has.weights.each k x lt).numbered in let h = has.loaded_rows k x lt in omega arith)).least)
-    (rest (sum_below (λ k. get_or increments k (pos 0)) d.columns) (weighted (λ r. (loaded_at d.loaded (r - 1)).least) rows) (constant_of d row) none has.negative total)))
+    (rest (sum_below (λ k. get_or increments k (pos 0)) d.columns) (weighted (λ r. (loaded_at d.loaded (r - 1)).least) rows) (constant_in d row) none has.negative total)))
   where
     rest : (a b c : ℤ) → a ≤ℤ pos 0 → c <ℤ pos 0 → neg_ℤ a +ℤ neg_ℤ b ≡ c → pos 0 <ℤ b
     rest a b c h k e = omega (arith, ints)
@@ -215,7 +215,7 @@ has_strict d row increments rows has =
     minus_one : (a : ℤ) → a *ℤ (pos 0 -ℤ pos 1) ≡ neg_ℤ a
     minus_one a = mul-neg a (pos 1) ∙ ap neg_ℤ (mul_one a)
 
-    total : neg_ℤ (sum_below (λ k. get_or increments k (pos 0)) d.columns) +ℤ neg_ℤ (weighted (λ r. (loaded_at d.loaded (r - 1)).least) rows) ≡ constant_of d row
+    total : neg_ℤ (sum_below (λ k. get_or increments k (pos 0)) d.columns) +ℤ neg_ℤ (weighted (λ r. (loaded_at d.loaded (r - 1)).least) rows) ≡ constant_in d row
     total =
         ap (λ (s : ℤ). s +ℤ neg_ℤ (weighted (λ r. (loaded_at d.loaded (r - 1)).least) rows))
         (sym (sum-ext (λ k. get_or increments k (pos 0) *ℤ (get_or (replicate d.columns (pos 0)) k (pos 0) -ℤ pos 1)) (λ k. neg_ℤ (get_or increments k (pos 0))) d.columns
@@ -227,9 +227,9 @@ has_strict d row increments rows has =
         (dot_zeros d.columns (loaded_at d.loaded ((slice_index_or rows k x).row - 1)).coefficients))
         ∙ weighted_neg (λ r. (loaded_at d.loaded (r - 1)).least) rows))
         ∙ weights_at_vector d has.dictionary row increments rows (replicate d.columns (pos 0)) (pos 1) has.within (length-replicate d.columns (pos 0)) has.own has.slacks has.weights.each
-        ∙ mul_one (constant_of d row)
+        ∙ mul_one (constant_in d row)
 
-pub weights_are_clash : (d : Tableau) (row : ℕ) (increments : List ℤ) (rows : List RowWeight) → HasWeights d row increments rows → IsClash d.columns d.loaded (record { increments = increments; rows = rows })
+pub weights_are_clash : (d : DictionaryView) (row : ℕ) (increments : List ℤ) (rows : List RowWeight) → HasWeights d row increments rows → IsClash d.columns d.loaded (record { increments = increments; rows = rows })
 weights_are_clash d row increments rows has = record {
   len = has.len;
   own = All-from_get_or (λ weight. pos 0 ≤ℤ weight) increments (pos 0) (λ k lt. own_nonneg d row increments rows has k (omega (arith, has.len)));

@@ -10,21 +10,21 @@ use Rattle.std.proofs.lemmas.List.FromFn.{get_or-map-range_with_len, length-map-
 use Rattle.std.proofs.lemmas.List.Elements.{All-from_get_or}
 use Rattle.minors.proofs.Ring.{sums, mul-add, mul-sub, sub-mul, add-mul, neg-mul, mul-neg, mul_assoc, mul_zero, zero_mul, one_mul}
 use Rattle.criteria_model.specs.Rows.{dot}
-use Rattle.least_index.specs.System.{sum_below}
+use Rattle.least_index.specs.Dictionary.{sum_below}
 use Rattle.least_index.proofs.Sums.{sum-ext, sum-zero, at_place, sum-at_place}
 use Rattle.least_index.proofs.Signs.{mul_nonneg}
 use Rattle.fraction_free.specs.declared.loaded.LoadedRow.{LoadedRow}
-use Rattle.fraction_free.specs.Tableau.{Tableau, IsDictionary, Satisfies, HasSlacks, vector_of, slack_of, loaded_at}
+use Rattle.fraction_free.specs.Dictionary.{DictionaryView, IsDictionary, Satisfies, HasSlacks, vector_of, slack_of, loaded_at, constant_in, entry_in}
 use Rattle.simplex.specs.declared.row_weights.RowWeight.{RowWeight}
 use Rattle.simplex.specs.declared.found.Clash.{Clash}
 use Rattle.simplex.specs.Weights.{IsRowWeight, AreRowWeights, weighted}
-use Rattle.simplex.specs.Choice.{constant_of, entry_of, IsBlocked}
-use Rattle.simplex.specs.Equation.{variable_at, weight_at, place_of, weight_of, HasSlackWeights}
+use Rattle.simplex.specs.Choice.{IsBlocked}
+use Rattle.simplex.specs.Equation.{variable_at, weight_at, place_in_equation, weight_of, HasSlackWeights}
 use Rattle.simplex.specs.Rows.{MeetsRows}
 use Rattle.simplex.specs.Results.{IsClash, IsStrictRow, coefficient}
 use Rattle.simplex.proofs.Positions.{place-found, placed, sum-placed, sum-front, dot-sum}
 use Rattle.simplex.proofs.Variables.{HasVariables, variables_of}
-use Rattle.simplex.proofs.AsSystem.{equation_sum}
+use Rattle.simplex.proofs.ByVariable.{equation_sum}
 use Rattle.simplex.proofs.Equations.{variables_distinct, variable_range, later_variable, later_weight, weight_of-none, weight_of-nonneg}
 use Rattle.simplex.proofs.Slacks.{slack_term, sum-skip}
 
@@ -58,35 +58,35 @@ sum_nonneg f (suc n) h = step (sum_below f n) (f n) (sum_nonneg f n (λ i lt. h 
 
 -- ---- the equation with all variables on one side
 
-equation_in_places : (d : Tableau) → IsDictionary d → (x : ℕ → ℤ) (row : ℕ) → row < length d.loaded → Satisfies d x
-    → sum_below (λ p. weight_at d row p *ℤ x (variable_at d row p)) (d.columns + 1) ≡ constant_of d row *ℤ x 0
+equation_in_places : (d : DictionaryView) → IsDictionary d → (x : ℕ → ℤ) (row : ℕ) → row < length d.loaded → Satisfies d x
+    → sum_below (λ p. weight_at d row p *ℤ x (variable_at d row p)) (d.columns + 1) ≡ constant_in d row *ℤ x 0
 equation_in_places d is x row lt sat =
     let one_more : d.columns + 1 ≡ suc d.columns = omega arith in
     ap (sum_below (λ p. weight_at d row p *ℤ x (variable_at d row p))) one_more
     ∙ sum-front (λ p. weight_at d row p *ℤ x (variable_at d row p)) d.columns
     ∙ ap (λ (s : ℤ). d.scale *ℤ x (slice_index d.basic row) +ℤ s)
-    (sum-ext (λ j. weight_at d row (suc j) *ℤ x (variable_at d row (suc j))) (λ j. neg_ℤ (entry_of d row j *ℤ x (slice_index d.nonbasic j))) d.columns (λ j l. column_term j)
-    ∙ sum_neg (λ j. entry_of d row j *ℤ x (slice_index d.nonbasic j)) d.columns)
-    ∙ moved (d.scale *ℤ x (slice_index d.basic row)) (sum_below (λ j. entry_of d row j *ℤ x (slice_index d.nonbasic j)) d.columns) (constant_of d row *ℤ x 0)
+    (sum-ext (λ j. weight_at d row (suc j) *ℤ x (variable_at d row (suc j))) (λ j. neg_ℤ (entry_in d row j *ℤ x (slice_index d.nonbasic j))) d.columns (λ j l. column_term j)
+    ∙ sum_neg (λ j. entry_in d row j *ℤ x (slice_index d.nonbasic j)) d.columns)
+    ∙ moved (d.scale *ℤ x (slice_index d.basic row)) (sum_below (λ j. entry_in d row j *ℤ x (slice_index d.nonbasic j)) d.columns) (constant_in d row *ℤ x 0)
     (sat.each row (omega (arith, is.basic_len, lt)) ∙ equation_sum d is x row lt)
   where
     moved : (a s c : ℤ) → a ≡ s +ℤ c → a +ℤ neg_ℤ s ≡ c
     moved a s c e = omega (arith, sums)
 
-    column_term : (j : ℕ) → weight_at d row (suc j) *ℤ x (variable_at d row (suc j)) ≡ neg_ℤ (entry_of d row j *ℤ x (slice_index d.nonbasic j))
+    column_term : (j : ℕ) → weight_at d row (suc j) *ℤ x (variable_at d row (suc j)) ≡ neg_ℤ (entry_in d row j *ℤ x (slice_index d.nonbasic j))
     column_term j =
         let place : suc j - 1 ≡ j = omega arith in
-        ap (λ (w : ℤ). w *ℤ x (variable_at d row (suc j))) (later_weight d row (suc j) (omega arith) ∙ ap (λ (n : ℕ). neg_ℤ (entry_of d row n)) place)
-        ∙ ap (λ (v : ℕ). neg_ℤ (entry_of d row j) *ℤ x v) (later_variable d row (suc j) (omega arith) ∙ ap (slice_index d.nonbasic) place)
-        ∙ neg-mul (entry_of d row j) (x (slice_index d.nonbasic j))
+        ap (λ (w : ℤ). w *ℤ x (variable_at d row (suc j))) (later_weight d row (suc j) (omega arith) ∙ ap (λ (n : ℕ). neg_ℤ (entry_in d row n)) place)
+        ∙ ap (λ (v : ℕ). neg_ℤ (entry_in d row j) *ℤ x v) (later_variable d row (suc j) (omega arith) ∙ ap (slice_index d.nonbasic) place)
+        ∙ neg-mul (entry_in d row j) (x (slice_index d.nonbasic j))
 
 -- over all variables
-equation_in_variables : (d : Tableau) → IsDictionary d → (x : ℕ → ℤ) (row : ℕ) → row < length d.loaded → Satisfies d x
-    → sum_below (λ v. weight_of d row v *ℤ x v) (d.columns + 1 + length d.loaded) ≡ constant_of d row *ℤ x 0
+equation_in_variables : (d : DictionaryView) → IsDictionary d → (x : ℕ → ℤ) (row : ℕ) → row < length d.loaded → Satisfies d x
+    → sum_below (λ v. weight_of d row v *ℤ x v) (d.columns + 1 + length d.loaded) ≡ constant_in d row *ℤ x 0
 equation_in_variables d is x row lt sat =
     sum-ext (λ v. weight_of d row v *ℤ x v) (placed (variable_at d row) (d.columns + 1) (λ p. weight_at d row p *ℤ x (variable_at d row p)) (d.columns + 1)) (d.columns + 1 + length d.loaded)
-    (λ v l. pointwise (nat_lt (place_of d row v) (d.columns + 1)) (weight_at d row (place_of d row v)) (x v) (x (variable_at d row (place_of d row v)))
-    (λ e. ap x (sym (place-found (variable_at d row) (d.columns + 1) v (ltb-true (place_of d row v) (d.columns + 1) e)))))
+    (λ v l. pointwise (nat_lt (place_in_equation d row v) (d.columns + 1)) (weight_at d row (place_in_equation d row v)) (x v) (x (variable_at d row (place_in_equation d row v)))
+    (λ e. ap x (sym (place-found (variable_at d row) (d.columns + 1) v (ltb-true (place_in_equation d row v) (d.columns + 1) e)))))
     ∙ sum-placed (variable_at d row) (d.columns + 1) (λ p. weight_at d row p *ℤ x (variable_at d row p)) (d.columns + 1 + length d.loaded) (d.columns + 1) (variables_distinct d is row lt)
     (λ p l. let r = (variable_range d is row p lt l).1 in omega arith) (omega arith)
     ∙ equation_in_places d is x row lt sat
@@ -96,10 +96,10 @@ equation_in_variables d is x row lt sat =
     pointwise false w a c h = zero_mul a
 
 -- over the increments, and over the weighted rows
-pub equation_of_weights : (d : Tableau) → IsDictionary d → (x : ℕ → ℤ) (row : ℕ) (increments : List ℤ) (rows : List RowWeight) → row < length d.loaded → Satisfies d x
+pub equation_of_weights : (d : DictionaryView) → IsDictionary d → (x : ℕ → ℤ) (row : ℕ) (increments : List ℤ) (rows : List RowWeight) → row < length d.loaded → Satisfies d x
     → ((column : ℕ) → column < d.columns → get_or increments column (pos 0) ≡ weight_of d row (column + 1))
     → HasSlackWeights d row (d.columns + 1 + length d.loaded) rows
-    → sum_below (λ k. get_or increments k (pos 0) *ℤ x (k + 1)) d.columns +ℤ weighted (λ r. x (d.columns + r)) rows ≡ constant_of d row *ℤ x 0
+    → sum_below (λ k. get_or increments k (pos 0) *ℤ x (k + 1)) d.columns +ℤ weighted (λ r. x (d.columns + r)) rows ≡ constant_in d row *ℤ x 0
 equation_of_weights d is x row increments rows lt sat own slacks =
     ap (λ (s : ℤ). s +ℤ weighted (λ r. x (d.columns + r)) rows) (sym low_sum)
     ∙ ap (λ (s : ℤ). sum_below low_term (d.columns + 1 + length d.loaded) +ℤ s) (slacks (λ r. x (d.columns + r)))
@@ -191,12 +191,12 @@ weighted_ext f g (x ∷ rows) are h =
     ∙ ap (λ (s : ℤ). x.weight *ℤ g x.row +ℤ s) (weighted_ext f g rows (λ k y lt. are (suc k) y (omega arith)) h)
 
 -- what the weights say of a vector
-pub weights_at_vector : (d : Tableau) → IsDictionary d → (row : ℕ) (increments : List ℤ) (rows : List RowWeight) (vector : List ℤ) (one : ℤ) → row < length d.loaded → length vector ≡ d.columns
+pub weights_at_vector : (d : DictionaryView) → IsDictionary d → (row : ℕ) (increments : List ℤ) (rows : List RowWeight) (vector : List ℤ) (one : ℤ) → row < length d.loaded → length vector ≡ d.columns
     → ((column : ℕ) → column < d.columns → get_or increments column (pos 0) ≡ weight_of d row (column + 1))
     → HasSlackWeights d row (d.columns + 1 + length d.loaded) rows → All IsRowWeight rows
     → sum_below (λ k. get_or increments k (pos 0) *ℤ (get_or vector k (pos 0) -ℤ one)) d.columns
     +ℤ weighted (λ r. dot (loaded_at d.loaded (r - 1)).coefficients vector -ℤ (loaded_at d.loaded (r - 1)).least *ℤ one) rows
-    ≡ constant_of d row *ℤ one
+    ≡ constant_in d row *ℤ one
 weights_at_vector d is row increments rows vector one lt len own slacks are =
     ap (λ (s : ℤ). s +ℤ weighted (λ r. dot (loaded_at d.loaded (r - 1)).coefficients vector -ℤ (loaded_at d.loaded (r - 1)).least *ℤ one) rows)
     (sum-ext (λ k. get_or increments k (pos 0) *ℤ (get_or vector k (pos 0) -ℤ one)) (λ k. get_or increments k (pos 0) *ℤ values_at d.columns d.loaded vector one (k + 1)) d.columns

@@ -5,27 +5,27 @@ use Rattle.std.proofs.lemmas.Int.{ints}
 use Rattle.std.proofs.lemmas.List.{get_or-take}
 use Rattle.minors.proofs.Ring.{abs-neg}
 use Rattle.std.proofs.lemmas.Bool.{cond-true, cond-false, cases_Bool, eqb-true, eqb-false, eq-eqb, ltb-true, ltb-false, lt-ltb, false_from_ne_true}
-use Rattle.fraction_free.specs.Tableau.{Tableau, IsDictionary}
-use Rattle.simplex.specs.Choice.{entry_of, constant_of, IsBlocked}
-use Rattle.simplex.specs.Equation.{variable_at, weight_at, place_of, weight_of}
+use Rattle.fraction_free.specs.Dictionary.{DictionaryView, IsDictionary, entry_in, constant_in}
+use Rattle.simplex.specs.Choice.{IsBlocked}
+use Rattle.simplex.specs.Equation.{variable_at, weight_at, place_in_equation, weight_of}
 use Rattle.simplex.proofs.Positions.{AreDistinct, place-of, place-found, place-none}
 use Rattle.simplex.proofs.Sizes.{scale_small, entry_small}
 use Rattle.simplex.proofs.ScaledPoints.{Written, written_none, written_more, written_past}
 use Rattle.simplex.proofs.Variables.{HasVariables, variables_of}
 
-pub first_variable : (d : Tableau) (row : ℕ) → variable_at d row 0 ≡ slice_index d.basic row
+pub first_variable : (d : DictionaryView) (row : ℕ) → variable_at d row 0 ≡ slice_index d.basic row
 first_variable d row = refl
 
-pub first_weight : (d : Tableau) (row : ℕ) → weight_at d row 0 ≡ d.scale
+pub first_weight : (d : DictionaryView) (row : ℕ) → weight_at d row 0 ≡ d.scale
 first_weight d row = refl
 
-pub later_variable : (d : Tableau) (row place : ℕ) → 0 < place → variable_at d row place ≡ slice_index d.nonbasic (place - 1)
+pub later_variable : (d : DictionaryView) (row place : ℕ) → 0 < place → variable_at d row place ≡ slice_index d.nonbasic (place - 1)
 later_variable d row place h = cond-false (place == 0) (slice_index d.basic row) (slice_index d.nonbasic (place - 1)) (false_from_ne_true (place == 0) (λ e. let z : place ≡ 0 = eqb-true place 0 e in omega arith))
 
-pub later_weight : (d : Tableau) (row place : ℕ) → 0 < place → weight_at d row place ≡ neg_ℤ (entry_of d row (place - 1))
-later_weight d row place h = cond-false (place == 0) d.scale (neg_ℤ (entry_of d row (place - 1))) (false_from_ne_true (place == 0) (λ e. let z : place ≡ 0 = eqb-true place 0 e in omega arith))
+pub later_weight : (d : DictionaryView) (row place : ℕ) → 0 < place → weight_at d row place ≡ neg_ℤ (entry_in d row (place - 1))
+later_weight d row place h = cond-false (place == 0) d.scale (neg_ℤ (entry_in d row (place - 1))) (false_from_ne_true (place == 0) (λ e. let z : place ≡ 0 = eqb-true place 0 e in omega arith))
 
-pub variables_distinct : (d : Tableau) → IsDictionary d → (row : ℕ) → row < length d.loaded → AreDistinct (variable_at d row) (d.columns + 1)
+pub variables_distinct : (d : DictionaryView) → IsDictionary d → (row : ℕ) → row < length d.loaded → AreDistinct (variable_at d row) (d.columns + 1)
 variables_distinct d is row lt i j li lj e = from (cases_Bool (i == 0)) (cases_Bool (j == 0))
   where
     vs : HasVariables d
@@ -47,7 +47,7 @@ variables_distinct d is row lt i j li lj e = from (cases_Bool (i == 0)) (cases_B
         let same : i - 1 ≡ j - 1 = vs.nonbasic_distinct (i - 1) (j - 1) (omega arith) (omega arith) (sym (later_variable d row i (omega arith)) ∙ e ∙ later_variable d row j (omega arith)) in
         omega arith
 
-pub variable_range : (d : Tableau) → IsDictionary d → (row place : ℕ) → row < length d.loaded → place < d.columns + 1 → (1 ≤ variable_at d row place) × (variable_at d row place ≤ d.columns + length d.loaded)
+pub variable_range : (d : DictionaryView) → IsDictionary d → (row place : ℕ) → row < length d.loaded → place < d.columns + 1 → (1 ≤ variable_at d row place) × (variable_at d row place ≤ d.columns + length d.loaded)
 variable_range d is row place lt l = from (cases_Bool (place == 0))
   where
     vs : HasVariables d
@@ -63,18 +63,18 @@ variable_range d is row place lt l = from (cases_Bool (place == 0))
         let inside : place - 1 < d.columns = omega arith in
         (omega (arith, e, vs.nonbasic_low (place - 1) inside), omega (arith, e, vs.nonbasic_high (place - 1) inside))
 
-pub weight_small : (d : Tableau) → IsDictionary d → (row place : ℕ) → row < length d.loaded → place < d.columns + 1 → unsigned_abs (weight_at d row place) < 2 ^ 96
+pub weight_small : (d : DictionaryView) → IsDictionary d → (row place : ℕ) → row < length d.loaded → place < d.columns + 1 → unsigned_abs (weight_at d row place) < 2 ^ 96
 weight_small d is row place lt l = from (cases_Bool (place == 0))
   where
     from : ((place == 0) ≡ true) ⊎ ((place == 0) ≡ false) → unsigned_abs (weight_at d row place) < 2 ^ 96
     from (inl a) = subst (λ (n : ℕ). unsigned_abs (weight_at d row n) < 2 ^ 96) (sym (eqb-true place 0 a)) (let s = scale_small d is in omega arith)
     from (inr a) =
         let p : place ≢ 0 = eqb-false place 0 a in
-        let s : unsigned_abs (entry_of d row (place - 1)) < 2 ^ 89 = entry_small d is row (place - 1) lt (omega arith) in
-        subst (λ (n : ℤ). unsigned_abs n < 2 ^ 96) (sym (later_weight d row place (omega arith))) (omega (arith, abs-neg (entry_of d row (place - 1))))
+        let s : unsigned_abs (entry_in d row (place - 1)) < 2 ^ 89 = entry_small d is row (place - 1) lt (omega arith) in
+        subst (λ (n : ℤ). unsigned_abs n < 2 ^ 96) (sym (later_weight d row place (omega arith))) (omega (arith, abs-neg (entry_in d row (place - 1))))
 
 -- where no nonbasic variable helps, no weight is negative
-pub weight_nonneg : (d : Tableau) → IsDictionary d → (row place : ℕ) → IsBlocked d row → place < d.columns + 1 → pos 0 ≤ℤ weight_at d row place
+pub weight_nonneg : (d : DictionaryView) → IsDictionary d → (row place : ℕ) → IsBlocked d row → place < d.columns + 1 → pos 0 ≤ℤ weight_at d row place
 weight_nonneg d is row place blocked l = from (cases_Bool (place == 0))
   where
     weak : (a : ℤ) → pos 1 ≤ℤ a → pos 0 ≤ℤ a
@@ -87,34 +87,34 @@ weight_nonneg d is row place blocked l = from (cases_Bool (place == 0))
     from (inl a) = subst (λ (n : ℕ). pos 0 ≤ℤ weight_at d row n) (sym (eqb-true place 0 a)) (weak d.scale is.positive)
     from (inr a) =
         let p : place ≢ 0 = eqb-false place 0 a in
-        subst (λ (n : ℤ). pos 0 ≤ℤ n) (sym (later_weight d row place (omega arith))) (turned (entry_of d row (place - 1)) (blocked (place - 1) (omega arith)))
+        subst (λ (n : ℤ). pos 0 ≤ℤ n) (sym (later_weight d row place (omega arith))) (turned (entry_in d row (place - 1)) (blocked (place - 1) (omega arith)))
 
 -- the weight of a variable that has a place, and of one that has none
-pub weight_of-at : (d : Tableau) → IsDictionary d → (row place : ℕ) → row < length d.loaded → place < d.columns + 1 → weight_of d row (variable_at d row place) ≡ weight_at d row place
+pub weight_of-at : (d : DictionaryView) → IsDictionary d → (row place : ℕ) → row < length d.loaded → place < d.columns + 1 → weight_of d row (variable_at d row place) ≡ weight_at d row place
 weight_of-at d is row place lt l =
-    let at : place_of d row (variable_at d row place) ≡ place = place-of (variable_at d row) (d.columns + 1) place (variables_distinct d is row lt) l in
-    cond-true (nat_lt (place_of d row (variable_at d row place)) (d.columns + 1)) (weight_at d row (place_of d row (variable_at d row place))) (pos 0) (ap (λ (n : ℕ). nat_lt n (d.columns + 1)) at ∙ lt-ltb place (d.columns + 1) l)
+    let at : place_in_equation d row (variable_at d row place) ≡ place = place-of (variable_at d row) (d.columns + 1) place (variables_distinct d is row lt) l in
+    cond-true (nat_lt (place_in_equation d row (variable_at d row place)) (d.columns + 1)) (weight_at d row (place_in_equation d row (variable_at d row place))) (pos 0) (ap (λ (n : ℕ). nat_lt n (d.columns + 1)) at ∙ lt-ltb place (d.columns + 1) l)
     ∙ ap (weight_at d row) at
 
-pub weight_of-none : (d : Tableau) (row v : ℕ) → ((p : ℕ) → p < d.columns + 1 → variable_at d row p ≢ v) → weight_of d row v ≡ pos 0
+pub weight_of-none : (d : DictionaryView) (row v : ℕ) → ((p : ℕ) → p < d.columns + 1 → variable_at d row p ≢ v) → weight_of d row v ≡ pos 0
 weight_of-none d row v none =
-    cond-false (nat_lt (place_of d row v) (d.columns + 1)) (weight_at d row (place_of d row v)) (pos 0)
-    (false_from_ne_true (nat_lt (place_of d row v) (d.columns + 1)) (λ e.
-    let l : place_of d row v < d.columns + 1 = ltb-true (place_of d row v) (d.columns + 1) e in
-    none (place_of d row v) l (place-found (variable_at d row) (d.columns + 1) v l)))
+    cond-false (nat_lt (place_in_equation d row v) (d.columns + 1)) (weight_at d row (place_in_equation d row v)) (pos 0)
+    (false_from_ne_true (nat_lt (place_in_equation d row v) (d.columns + 1)) (λ e.
+    let l : place_in_equation d row v < d.columns + 1 = ltb-true (place_in_equation d row v) (d.columns + 1) e in
+    none (place_in_equation d row v) l (place-found (variable_at d row) (d.columns + 1) v l)))
 
 -- a variable has a place, or none
-pub has_place : (d : Tableau) (row v : ℕ) → ((p : ℕ) × (p < d.columns + 1) × (variable_at d row p ≡ v)) ⊎ ((p : ℕ) → p < d.columns + 1 → variable_at d row p ≢ v)
-has_place d row v = from (cases_Bool (nat_lt (place_of d row v) (d.columns + 1)))
+pub has_place : (d : DictionaryView) (row v : ℕ) → ((p : ℕ) × (p < d.columns + 1) × (variable_at d row p ≡ v)) ⊎ ((p : ℕ) → p < d.columns + 1 → variable_at d row p ≢ v)
+has_place d row v = from (cases_Bool (nat_lt (place_in_equation d row v) (d.columns + 1)))
   where
-    from : (nat_lt (place_of d row v) (d.columns + 1) ≡ true) ⊎ (nat_lt (place_of d row v) (d.columns + 1) ≡ false)
+    from : (nat_lt (place_in_equation d row v) (d.columns + 1) ≡ true) ⊎ (nat_lt (place_in_equation d row v) (d.columns + 1) ≡ false)
         → ((p : ℕ) × (p < d.columns + 1) × (variable_at d row p ≡ v)) ⊎ ((p : ℕ) → p < d.columns + 1 → variable_at d row p ≢ v)
     from (inl e) =
-        let l : place_of d row v < d.columns + 1 = ltb-true (place_of d row v) (d.columns + 1) e in
-        inl (place_of d row v, l, place-found (variable_at d row) (d.columns + 1) v l)
-    from (inr e) = inr (λ p l. place-none (variable_at d row) (d.columns + 1) v p (ltb-false (place_of d row v) (d.columns + 1) e) l)
+        let l : place_in_equation d row v < d.columns + 1 = ltb-true (place_in_equation d row v) (d.columns + 1) e in
+        inl (place_in_equation d row v, l, place-found (variable_at d row) (d.columns + 1) v l)
+    from (inr e) = inr (λ p l. place-none (variable_at d row) (d.columns + 1) v p (ltb-false (place_in_equation d row v) (d.columns + 1) e) l)
 
-pub weight_of-nonneg : (d : Tableau) → IsDictionary d → (row v : ℕ) → row < length d.loaded → IsBlocked d row → pos 0 ≤ℤ weight_of d row v
+pub weight_of-nonneg : (d : DictionaryView) → IsDictionary d → (row v : ℕ) → row < length d.loaded → IsBlocked d row → pos 0 ≤ℤ weight_of d row v
 weight_of-nonneg d is row v lt blocked = from (has_place d row v)
   where
     from : ((p : ℕ) × (p < d.columns + 1) × (variable_at d row p ≡ v)) ⊎ ((p : ℕ) → p < d.columns + 1 → variable_at d row p ≢ v) → pos 0 ≤ℤ weight_of d row v
@@ -123,13 +123,13 @@ weight_of-nonneg d is row v lt blocked = from (has_place d row v)
 
 -- ---- the increments' weights
 
-abbrev pub WrittenWeights : Tableau → ℕ → ℕ → List ℤ → Type 0
+abbrev pub WrittenWeights : DictionaryView → ℕ → ℕ → List ℤ → Type 0
 WrittenWeights d row n cells = Written (variable_at d row) (weight_at d row) (pos 0) d.columns n cells
 
-pub weights_none : (d : Tableau) (row : ℕ) → WrittenWeights d row 0 (replicate 24 (pos 0))
+pub weights_none : (d : DictionaryView) (row : ℕ) → WrittenWeights d row 0 (replicate 24 (pos 0))
 weights_none d row = written_none (variable_at d row) (weight_at d row) (pos 0) d.columns (omega arith)
 
-pub weights_more : (d : Tableau) (row n : ℕ) (cells new : List ℤ) (v : ℕ) (z : ℤ) → IsDictionary d → row < length d.loaded → n < d.columns + 1
+pub weights_more : (d : DictionaryView) (row n : ℕ) (cells new : List ℤ) (v : ℕ) (z : ℤ) → IsDictionary d → row < length d.loaded → n < d.columns + 1
     → v ≡ variable_at d row n → v ≤ d.columns → z ≡ weight_at d row n → new ≡ slice_set cells (v - 1) z → WrittenWeights d row n cells → WrittenWeights d row (n + 1) new
 weights_more d row n cells new v z is lt l e le ez en w =
     subst (λ (c : List ℤ). WrittenWeights d row (n + 1) c)
@@ -137,12 +137,12 @@ weights_more d row n cells new v z is lt l e le ez en w =
     (written_more (variable_at d row) (weight_at d row) (pos 0) d.columns n (d.columns + 1) cells (variables_distinct d is row lt) l (λ i li. (variable_range d is row i lt li).0) is.columns_most
     (weight_small d is row n lt l) (omega (arith, e)) w)
 
-pub weights_past : (d : Tableau) (row n : ℕ) (cells new : List ℤ) (v : ℕ) → v ≡ variable_at d row n → d.columns < v → new ≡ cells → WrittenWeights d row n cells → WrittenWeights d row (n + 1) new
+pub weights_past : (d : DictionaryView) (row n : ℕ) (cells new : List ℤ) (v : ℕ) → v ≡ variable_at d row n → d.columns < v → new ≡ cells → WrittenWeights d row n cells → WrittenWeights d row (n + 1) new
 weights_past d row n cells new v e gt en w =
     subst (λ (c : List ℤ). WrittenWeights d row (n + 1) c) (sym en)
     (written_past (variable_at d row) (weight_at d row) (pos 0) d.columns n cells (omega (arith, e)) w)
 
-pub weights_are : (d : Tableau) (row n : ℕ) (cells : List ℤ) → IsDictionary d → row < length d.loaded → d.columns + 1 ≤ n → n ≤ d.columns + 1 → WrittenWeights d row n cells
+pub weights_are : (d : DictionaryView) (row n : ℕ) (cells : List ℤ) → IsDictionary d → row < length d.loaded → d.columns + 1 ≤ n → n ≤ d.columns + 1 → WrittenWeights d row n cells
     → (column : ℕ) → column < d.columns → get_or (take d.columns cells) column (pos 0) ≡ weight_of d row (column + 1)
 weights_are d row n cells is lt ge le w column l = get_or-take d.columns cells column (pos 0) l ∙ from (has_place d row (column + 1))
   where

@@ -3,7 +3,7 @@ use Rattle.std.proofs.Common.{◌≡◌, ℕ, zero, suc, ◌+◌, ◌-◌, ◌<�
 use Rattle.std.specs.Prelude.{not, count_by, slice_set, nat_lt}
 use Rattle.std.proofs.lemmas.Bool.{le-ltb, true≢false}
 use Rattle.std.proofs.lemmas.List.Sums.{sum_by-set, sum_by-take-le}
-use Rattle.fraction_free.specs.Tableau.{Tableau}
+use Rattle.fraction_free.specs.Dictionary.{DictionaryView}
 use Rattle.simplex.specs.Weights.{is_weight}
 use Rattle.simplex.specs.Equation.{variable_at, how_many, has_slack}
 
@@ -30,7 +30,7 @@ pub count-take-le : (cells : List ℤ) (k : ℕ) → count_by is_weight (take k 
 count-take-le cells k = sum_by-take-le (λ (y : ℤ). cond (is_weight y) 1 0) cells k
 
 -- the weights written so far
-pub few_more : (d : Tableau) (row place variable : ℕ) (cells now : List ℤ) (k : ℕ) (x : ℤ) → variable ≡ variable_at d row place → variable ≤ d.columns → k < length cells → now ≡ slice_set cells k x
+pub few_more : (d : DictionaryView) (row place variable : ℕ) (cells now : List ℤ) (k : ℕ) (x : ℤ) → variable ≡ variable_at d row place → variable ≤ d.columns → k < length cells → now ≡ slice_set cells k x
     → count_by is_weight cells ≤ how_many (λ p. not (has_slack d row p)) place → count_by is_weight now ≤ how_many (λ p. not (has_slack d row p)) (place + 1)
 unfolding how_many
 few_more d row place variable cells now k x ev le lt en few =
@@ -44,7 +44,7 @@ few_more d row place variable cells now k x ev le lt en few =
     step true e h = absurd (true≢false e)
     step false e h = h
 
-pub few_past : (d : Tableau) (row place : ℕ) (cells now : List ℤ) → now ≡ cells
+pub few_past : (d : DictionaryView) (row place : ℕ) (cells now : List ℤ) → now ≡ cells
     → count_by is_weight cells ≤ how_many (λ p. not (has_slack d row p)) place → count_by is_weight now ≤ how_many (λ p. not (has_slack d row p)) (place + 1)
 unfolding how_many
 few_past d row place cells now en few =

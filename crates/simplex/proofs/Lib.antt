@@ -1,6 +1,6 @@
 pub mod Positions
 pub mod Variables
-pub mod AsSystem
+pub mod ByVariable
 pub mod Sizes
 pub mod Choosing
 pub mod Divisors

@@ -15,7 +15,7 @@ use Rattle.minors.proofs.Ring.{mul-neg}
 use Rattle.criteria_model.specs.Lists.{IsVector}
 use Rattle.criteria_model.specs.Rows.{times}
 use Rattle.least_index.proofs.Signs.{mul_nonpos, mul_nonneg, nonneg_of_pos}
-use Rattle.simplex.specs.Rows.{HasNoDivisor}
+use Rattle.simplex.specs.Rows.{IsCoprime}
 use Rattle.simplex.proofs.Sizes.{kept, fits}
 
 pub exact : (v g : ℤ) → pos 1 ≤ℤ g → unsigned_abs g ∣ unsigned_abs v → g *ℤ quot_z v g ≡ v
@@ -140,11 +140,11 @@ no_greater g (suc (suc d)) some h =
     let more : g * 2 ≤ g * suc (suc d) = mul-le-mul_left g (omega arith) in
     absurd (omega arith)
 
-pub quotient_has_no_divisor : (values result : List ℤ) (g : ℤ) → pos 1 ≤ℤ g → values ≡ times g result
+pub quotient_is_coprime : (values result : List ℤ) (g : ℤ) → pos 1 ≤ℤ g → values ≡ times g result
     → ((d : ℕ) → All (λ x. d ∣ unsigned_abs x) values → d ∣ unsigned_abs g)
-    → HasNoDivisor result
-quotient_has_no_divisor values result (negsuc g) pg e greatest d divides = absurd (omega (arith, ints))
-quotient_has_no_divisor values result (pos g) pg e greatest d divides =
+    → IsCoprime result
+quotient_is_coprime values result (negsuc g) pg e greatest d divides = absurd (omega (arith, ints))
+quotient_is_coprime values result (pos g) pg e greatest d divides =
     let len : length values ≡ length result = len_of values result (pos g) e in
     no_greater g d (omega (arith, ints))
     (greatest (g * d) (All-from_get_or (λ x. (g * d) ∣ unsigned_abs x) values (pos 0) (λ k lt.

@@ -5,8 +5,7 @@ use Rattle.std.proofs.lemmas.Bool.{cases_Bool, eqb-true, eqb-false}
 use Rattle.std.proofs.lemmas.List.{get_or-replicate, get_or-take, get_or-set_same, get_or-set_other, length-take-le, length-set}
 use Rattle.std.proofs.lemmas.List.Elements.{All-from_get_or}
 use Rattle.criteria_model.specs.Lists.{IsVector}
-use Rattle.fraction_free.specs.Tableau.{Tableau, IsDictionary}
-use Rattle.simplex.specs.Choice.{constant_of}
+use Rattle.fraction_free.specs.Dictionary.{DictionaryView, IsDictionary, constant_in}
 use Rattle.simplex.specs.Point.{IsScaledPoint}
 use Rattle.simplex.proofs.Positions.{AreDistinct}
 

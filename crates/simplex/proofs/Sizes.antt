@@ -5,8 +5,7 @@ use Rattle.std.specs.Prelude.{slice_index_or}
 use Rattle.std.proofs.lemmas.Int.{ints, fits_signed_from_abs, to_z-of_z}
 use Rattle.minors.proofs.Laws.{bound_is_small}
 use Rattle.minors.proofs.Ring.{abs-add, abs-neg, sums}
-use Rattle.fraction_free.specs.Tableau.{Tableau, IsDictionary}
-use Rattle.simplex.specs.Choice.{constant_of, entry_of}
+use Rattle.fraction_free.specs.Dictionary.{DictionaryView, IsDictionary, constant_in, entry_in}
 
 -- a number below 2^126 in size is kept by a cast
 pub kept : (x : ℤ) → unsigned_abs x < 2 ^ 126 → to_z w128 (of_z w128 x) ≡ x
@@ -15,10 +14,10 @@ kept x h = to_z-of_z w128 x (fits_signed_from_abs w128 x (omega arith))
 pub fits : (x : ℤ) → unsigned_abs x < 2 ^ 126 → FitsSigned w128 x
 fits x h = fits_signed_from_abs w128 x (omega arith)
 
-pub entry_small : (d : Tableau) → IsDictionary d → (row column : ℕ) → row < length d.loaded → column ≤ d.columns → unsigned_abs (entry_of d row column) < 2 ^ 89
+pub entry_small : (d : DictionaryView) → IsDictionary d → (row column : ℕ) → row < length d.loaded → column ≤ d.columns → unsigned_abs (entry_in d row column) < 2 ^ 89
 entry_small d is row column lt le = omega (arith, is.sizes row column lt le, bound_is_small.1)
 
-pub scale_small : (d : Tableau) → IsDictionary d → unsigned_abs d.scale < 2 ^ 89
+pub scale_small : (d : DictionaryView) → IsDictionary d → unsigned_abs d.scale < 2 ^ 89
 scale_small d is = omega (arith, is.scale_size, bound_is_small.1)
 
 negated_zero : (x : ℤ) → pos 0 -ℤ x ≡ neg_ℤ x

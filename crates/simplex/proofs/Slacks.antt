@@ -7,10 +7,10 @@ use Rattle.std.proofs.lemmas.List.{length-append}
 use Rattle.std.proofs.lemmas.List.Elements.{All-append, All-from_get_or, All-get_or}
 use Rattle.std.specs.Cmp.Derive.{both_true}
 use Rattle.minors.proofs.Ring.{sums, mul_zero, zero_mul}
-use Rattle.least_index.specs.System.{sum_below}
+use Rattle.least_index.specs.Dictionary.{sum_below}
 use Rattle.least_index.proofs.Sums.{sum-zero}
 use Rattle.least_index.proofs.Choice.{and_left, and_right, positive, not_positive}
-use Rattle.fraction_free.specs.Tableau.{Tableau, IsDictionary}
+use Rattle.fraction_free.specs.Dictionary.{DictionaryView, IsDictionary}
 use Rattle.simplex.specs.declared.row_weights.RowWeight.{RowWeight}
 use Rattle.simplex.specs.Weights.{IsRowWeight, AreRowWeights, weighted}
 use Rattle.simplex.specs.Choice.{IsBlocked}
@@ -65,17 +65,17 @@ how_many-fewer test other (suc n) p lt h fails passes = from (λ (ne : p ≢ n).
         there_less (test n) (other n) (how_many test n) (how_many other n) (h n (omega arith)) (rest (eqb-false p n e))
 
 -- the place has a later variable with a positive weight
-abbrev pub is_later : Tableau → ℕ → ℕ → ℕ → Bool
+abbrev pub is_later : DictionaryView → ℕ → ℕ → ℕ → Bool
 is_later d row above p = nat_lt above (variable_at d row p) && int_lt (pos 0) (weight_at d row p)
 
 -- how many places have
-abbrev pub remaining : Tableau → ℕ → ℕ → ℕ
+abbrev pub remaining : DictionaryView → ℕ → ℕ → ℕ
 remaining d row above = how_many (is_later d row above) (d.columns + 1)
 
 positive_test : (a : ℤ) → pos 0 <ℤ a → int_lt (pos 0) a ≡ true
 positive_test a h = true_from_ne_false (int_lt (pos 0) a) (λ e. let g = not_positive a e in omega (arith, ints))
 
-pub remaining_falls : (d : Tableau) (row above v place : ℕ) → IsNextWeight d row above place → v ≡ variable_at d row place → remaining d row v < remaining d row above
+pub remaining_falls : (d : DictionaryView) (row above v place : ℕ) → IsNextWeight d row above place → v ≡ variable_at d row place → remaining d row v < remaining d row above
 remaining_falls d row above v place is e =
     how_many-fewer (is_later d row v) (is_later d row above) (d.columns + 1) place (let w = is.within in omega arith)
     (λ i l t.
@@ -87,7 +87,7 @@ remaining_falls d row above v place is e =
 
 -- ---- the sum over the slacks
 
-abbrev pub slack_term : Tableau → ℕ → (ℕ → ℤ) → ℕ → ℤ
+abbrev pub slack_term : DictionaryView → ℕ → (ℕ → ℤ) → ℕ → ℤ
 slack_term d row of variable = cond (nat_lt d.columns variable) (weight_of d row variable *ℤ of (variable - d.columns)) (pos 0)
 
 sum-suc : (f : ℕ → ℤ) (n : ℕ) → sum_below f (suc n) ≡ sum_below f n +ℤ f n
@@ -120,7 +120,7 @@ weighted-append of (y ∷ xs) x =
     regroup a b c = omega (arith, sums)
 
 -- a variable without a later positive weight has none
-zero_weight : (d : Tableau) → IsDictionary d → (row u : ℕ) → row < length d.loaded → IsBlocked d row
+zero_weight : (d : DictionaryView) → IsDictionary d → (row u : ℕ) → row < length d.loaded → IsBlocked d row
     → ((p : ℕ) → p < d.columns + 1 → variable_at d row p ≡ u → pos 0 <ℤ weight_at d row p → ⊥) → weight_of d row u ≡ pos 0
 zero_weight d is row u lt blocked none = from (has_place d row u)
   where
@@ -133,7 +133,7 @@ zero_weight d is row u lt blocked none = from (has_place d row u)
     from (inl f) = sym (ap (weight_of d row) f.2) ∙ weight_of-at d is row f.0 lt f.1 ∙ zero_of (weight_at d row f.0) (weight_nonneg d is row f.0 blocked f.1) (none f.0 f.1 f.2)
     from (inr n) = weight_of-none d row u n
 
-zero_term : (d : Tableau) (row u : ℕ) (of : ℕ → ℤ) → weight_of d row u ≡ pos 0 → slack_term d row of u ≡ pos 0
+zero_term : (d : DictionaryView) (row u : ℕ) (of : ℕ → ℤ) → weight_of d row u ≡ pos 0 → slack_term d row of u ≡ pos 0
 zero_term d row u of e = step (nat_lt d.columns u) (weight_of d row u *ℤ of (u - d.columns)) (ap (λ (n : ℤ). n *ℤ of (u - d.columns)) e ∙ zero_mul (of (u - d.columns)))
   where
     step : (b : Bool) (a : ℤ) → a ≡ pos 0 → cond b a (pos 0) ≡ pos 0
@@ -141,7 +141,7 @@ zero_term d row u of e = step (nat_lt d.columns u) (weight_of d row u *ℤ of (u
     step false a e = refl
 
 -- the weighted rows so far
-pub record SlacksSoFar (d : Tableau) (row columns above : ℕ) (rows : List RowWeight) : Type 0 where
+pub record SlacksSoFar (d : DictionaryView) (row columns above : ℕ) (rows : List RowWeight) : Type 0 where
   pub columns_is : columns ≡ d.columns
   pub low : d.columns ≤ above
   pub high : above ≤ d.columns + length d.loaded
@@ -150,7 +150,7 @@ pub record SlacksSoFar (d : Tableau) (row columns above : ℕ) (rows : List RowW
   pub room : length rows + remaining d row above ≤ remaining d row d.columns
   pub summed : HasSlackWeights d row (above + 1) rows
 
-pub slacks_none : (d : Tableau) (row columns : ℕ) → IsDictionary d → columns ≡ d.columns → SlacksSoFar d row columns columns []
+pub slacks_none : (d : DictionaryView) (row columns : ℕ) → IsDictionary d → columns ≡ d.columns → SlacksSoFar d row columns columns []
 slacks_none d row columns is e = record {
   columns_is = e;
   low = omega arith;
@@ -161,13 +161,13 @@ slacks_none d row columns is e = record {
   summed = λ of. sym (sum-zero (slack_term d row of) (columns + 1) (λ u lt. cond-false (nat_lt d.columns u) (weight_of d row u *ℤ of (u - d.columns)) (pos 0) (le-ltb d.columns u (omega arith))));
 }
 
-pub slack_room : (d : Tableau) (row columns above place : ℕ) (rows : List RowWeight) → IsDictionary d → IsNextWeight d row above place → SlacksSoFar d row columns above rows → length rows < 25
+pub slack_room : (d : DictionaryView) (row columns above place : ℕ) (rows : List RowWeight) → IsDictionary d → IsNextWeight d row above place → SlacksSoFar d row columns above rows → length rows < 25
 slack_room d row columns above place rows is next so =
     let falls = remaining_falls d row above (variable_at d row place) place next refl in
     let most = how_many-le (is_later d row d.columns) (d.columns + 1) in
     let r = so.room in omega (arith, is.columns_most)
 
-pub slacks_more : (d : Tableau) (row columns above v place : ℕ) (w : ℤ) (rows new : List RowWeight) → IsDictionary d → row < length d.loaded → IsBlocked d row
+pub slacks_more : (d : DictionaryView) (row columns above v place : ℕ) (w : ℤ) (rows new : List RowWeight) → IsDictionary d → row < length d.loaded → IsBlocked d row
     → IsNextWeight d row above place → v ≡ variable_at d row place → w ≡ weight_at d row place → new ≡ rows ++ (record { row = v - columns; weight = w }) ∷ []
     → SlacksSoFar d row columns above rows → SlacksSoFar d row columns v new
 slacks_more d row columns above v place w rows new is lt blocked next ev ew en so = record {
@@ -215,7 +215,7 @@ slacks_more d row columns above v place w rows new is lt blocked next ev ew en s
         ∙ sym (sum-suc (slack_term d row of) v)
         ∙ ap (sum_below (slack_term d row of)) (sym place_is)
 
-pub slacks_done : (d : Tableau) (row columns above : ℕ) (rows : List RowWeight) → IsDictionary d → row < length d.loaded → IsBlocked d row → HasNoNextWeight d row above → SlacksSoFar d row columns above rows
+pub slacks_done : (d : DictionaryView) (row columns above : ℕ) (rows : List RowWeight) → IsDictionary d → row < length d.loaded → IsBlocked d row → HasNoNextWeight d row above → SlacksSoFar d row columns above rows
     → HasSlackWeights d row (d.columns + 1 + length d.loaded) rows
 slacks_done d row columns above rows is lt blocked none so of =
     so.summed of
@@ -223,7 +223,7 @@ slacks_done d row columns above rows is lt blocked none so of =
     (λ u l k. zero_term d row u of (zero_weight d is row u lt blocked (λ p lp e positive_weight. none p (omega arith) (omega (arith, e)) positive_weight))))
 
 -- no more rows than places that have slacks
-pub slacks_few : (d : Tableau) (row columns above : ℕ) (rows : List RowWeight) → SlacksSoFar d row columns above rows → length rows ≤ how_many (has_slack d row) (d.columns + 1)
+pub slacks_few : (d : DictionaryView) (row columns above : ℕ) (rows : List RowWeight) → SlacksSoFar d row columns above rows → length rows ≤ how_many (has_slack d row) (d.columns + 1)
 slacks_few d row columns above rows so =
     let part : remaining d row d.columns ≤ how_many (has_slack d row) (d.columns + 1) =
     how_many-part (is_later d row d.columns) (has_slack d row) (d.columns + 1) (λ i lt. and_left (has_slack d row i) (int_lt (pos 0) (weight_at d row i))) in

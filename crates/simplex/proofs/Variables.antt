@@ -5,10 +5,10 @@ use Rattle.std.proofs.lemmas.Bool.{cases_Bool, ltb-true, ltb-false, true≢false
 use Rattle.std.specs.Prelude.{nat_lt}
 use Rattle.std.proofs.lemmas.List.{get_or_append_left, get_or-append_right, length-append}
 use Rattle.fraction_free.specs.Arrangement.{IsArrangement}
-use Rattle.fraction_free.specs.Tableau.{Tableau, IsDictionary}
+use Rattle.fraction_free.specs.Dictionary.{DictionaryView, IsDictionary}
 use Rattle.simplex.proofs.Positions.{AreDistinct}
 
-pub record HasVariables (d : Tableau) : Type 0 where
+pub record HasVariables (d : DictionaryView) : Type 0 where
   pub basic_distinct : AreDistinct (slice_index d.basic) (length d.loaded)
   pub nonbasic_distinct : AreDistinct (slice_index d.nonbasic) d.columns
   pub apart : (i j : ℕ) → i < length d.loaded → j < d.columns → slice_index d.basic i ≢ slice_index d.nonbasic j
@@ -42,7 +42,7 @@ in_order nonbasic basic columns rows n b = record {
     row_place : (i : ℕ) → columns + 1 + i - columns ≡ suc i
     row_place i = omega arith
 
-pub variables_of : (d : Tableau) → IsDictionary d → HasVariables d
+pub variables_of : (d : DictionaryView) → IsDictionary d → HasVariables d
 variables_of d is = record {
   basic_distinct = λ i j li lj e. row_same i j (same (d.columns + 1 + i) (d.columns + 1 + j) (omega (arith, o.of_len)) (omega (arith, o.of_len)) (o.at_row i li ∙ e ∙ sym (o.at_row j lj)));
   nonbasic_distinct = λ i j li lj e. same i j (omega (arith, o.of_len)) (omega (arith, o.of_len)) (o.at_column i li ∙ e ∙ sym (o.at_column j lj));

@@ -1,13 +1,13 @@
 -- What `solve` finds: a vector, or weights that rule out every vector (Motzkin's transposition theorem, for rows of which some are strict).
 use Rattle.std.specs.Prelude.{ℕ, ◌≡◌, ◌⊎◌, ◌+◌, ◌-◌, ◌<◌, ◌≤◌, List, length, count_by, All, Any, slice_index_or, ℤ, pos, ◌+ℤ◌, ◌<ℤ◌, ◌≤ℤ◌}
 use Rattle.fraction_free.specs.declared.loaded.LoadedRow.{LoadedRow}
-use Rattle.fraction_free.specs.Tableau.{Tableau, loaded_at}
+use Rattle.fraction_free.specs.Dictionary.{DictionaryView, loaded_at}
 use Rattle.simplex.specs.declared.row_weights.RowWeight.{RowWeight}
 use Rattle.simplex.specs.declared.found.Clash.{Clash}
 use Rattle.simplex.specs.declared.found.Found.{Found}
 use Rattle.simplex.specs.declared.found.Found.TheVariants.{Point}
 use Rattle.simplex.specs.declared.found.Found.TheVariants as variant
-use Rattle.simplex.specs.Rows.{MeetsRows, HasNoDivisor}
+use Rattle.simplex.specs.Rows.{MeetsRows, IsCoprime}
 use Rattle.simplex.specs.Weights.{is_weight, AreRowWeights, weighted}
 
 -- a row's coefficient at a column; rows are numbered from 1, columns from 0
@@ -30,11 +30,11 @@ pub record IsClash (columns : ℕ) (loaded : List LoadedRow) (clash : Clash) : T
 
 -- a point meets the rows and has no common divisor; a clash is valid, and no vector meets the rows
 abbrev pub IsFound : ℕ → List LoadedRow → Found → Type 0
-IsFound columns loaded (Point vector) = MeetsRows columns loaded vector × HasNoDivisor vector
+IsFound columns loaded (Point vector) = MeetsRows columns loaded vector × IsCoprime vector
 IsFound columns loaded (variant.Clash clash) = IsClash columns loaded clash × ((vector : List ℤ) → ¬ MeetsRows columns loaded vector)
 
 -- the rows and all that does not change by pivots are as before
-pub record KeepsRows (old new : Tableau) : Type 0 where
+pub record KeepsRows (old new : DictionaryView) : Type 0 where
   pub columns : new.columns ≡ old.columns
   pub loaded : new.loaded ≡ old.loaded
   pub room_columns : new.room_columns ≡ old.room_columns

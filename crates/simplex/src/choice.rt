@@ -1,6 +1,6 @@
 //! The least-index rule's choice.
 ghost use Rattle.std.specs.Prelude.{ℕ, ◌-◌, ◌<◌, ◌≤◌, ◌≡◌, length, MatchOption, pos, ◌<ℤ◌};
-ghost use Rattle.fraction_free.specs.Tableau.{IsDictionary};
+ghost use Rattle.fraction_free.specs.Dictionary.{IsDictionary};
 ghost use Rattle.simplex.specs.Choice.{IsFeasible, IsLeavingRow, IsBlocked, IsEnteringColumn};
 
 use fraction_free::Dictionary;

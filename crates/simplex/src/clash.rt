@@ -1,9 +1,9 @@
 //! The clash of a row that no nonbasic variable helps.
 ghost use Rattle.std.specs.Prelude.{ℕ, ◌≡◌, ◌+◌, ◌-◌, ◌^◌, ◌<◌, ◌≤◌, List, length, count_by, not, All, MatchOption, slice_index_or, ℤ, pos, ◌<ℤ◌, ◌≤ℤ◌, unsigned_abs};
-ghost use Rattle.fraction_free.specs.Tableau.{IsDictionary};
+ghost use Rattle.fraction_free.specs.Dictionary.{IsDictionary, constant_in};
 ghost use Rattle.simplex.specs.Rows.{MeetsRows};
 ghost use Rattle.simplex.specs.Weights.{is_weight, AreRowWeights};
-ghost use Rattle.simplex.specs.Choice.{IsBlocked, constant_of};
+ghost use Rattle.simplex.specs.Choice.{IsBlocked};
 ghost use Rattle.simplex.specs.Equation.{variable_at, weight_at, weight_of, how_many, has_slack, IsNextWeight, HasNoNextWeight, HasSlackWeights};
 ghost use Rattle.simplex.specs.Results.{IsClash};
 
@@ -17,7 +17,7 @@ use fraction_free::Dictionary;
 pub fn clash_of(work: &Dictionary, row: u32) -> Clash
     requires low { 1 ≤ row }
     requires high { row ≤ length work.now.loaded }
-    requires negative { constant_of work.now (row - 1) <ℤ pos 0 }
+    requires negative { constant_in work.now (row - 1) <ℤ pos 0 }
     requires blocked { IsBlocked work.now (row - 1) }
     ensures clash { IsClash work.now.columns work.now.loaded result }
     ensures unmet { (vector : List ℤ) → ¬ MeetsRows work.now.columns work.now.loaded vector }

@@ -2,8 +2,8 @@
 ghost use Rattle.std.specs.Prelude.{ℕ, ◌≡◌, All, length, pos, ℤ, ◌≤ℤ◌};
 ghost use Rattle.criteria_model.specs.Lists.{IsVector};
 ghost use Rattle.criteria_model.specs.Rows.{times};
-ghost use Rattle.fraction_free.specs.Tableau.{IsDictionary};
-ghost use Rattle.simplex.specs.Rows.{MeetsRows, HasNoDivisor};
+ghost use Rattle.fraction_free.specs.Dictionary.{IsDictionary};
+ghost use Rattle.simplex.specs.Rows.{MeetsRows, IsCoprime};
 ghost use Rattle.simplex.specs.Choice.{IsFeasible};
 ghost use Rattle.simplex.specs.Point.{IsScaledPoint};
 
@@ -15,7 +15,7 @@ use fraction_free::Dictionary;
 pub fn point_of(work: &Dictionary) -> Vector
     requires { IsFeasible work.now }
     ensures meets { MeetsRows work.now.columns work.now.loaded result }
-    ensures reduced { HasNoDivisor result }
+    ensures reduced { IsCoprime result }
 {
     let values = scaled_point(work);
     reduced(values.as_slice())
@@ -43,7 +43,7 @@ fn scaled_point(work: &Dictionary) -> Vector
 pub fn reduced(values: &[i128]) -> Vector
     requires vector { IsVector values.now }
     requires positive { All (λ x. pos 1 ≤ℤ x) values.now }
-    ensures reduced { HasNoDivisor result }
+    ensures reduced { IsCoprime result }
     ensures positive { All (λ x. pos 1 ≤ℤ x) result }
     ensures multiple { (factor : ℤ) × (pos 1 ≤ℤ factor) × (values.now ≡ times factor result) }
 {

@@ -1,6 +1,6 @@
 //! The solver's loop.
 ghost use Rattle.simplex.specs.Results.{IsFound, KeepsRows};
-ghost use Rattle.fraction_free.specs.Tableau.{IsDictionary};
+ghost use Rattle.fraction_free.specs.Dictionary.{IsDictionary};
 
 use crate::choice::{entering_column, leaving_row};
 use crate::clash::clash_of;

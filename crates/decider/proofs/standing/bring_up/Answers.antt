@@ -3,7 +3,7 @@ use Rattle.std.specs.Prelude.{slice_get}
 use Rattle.std.proofs.lemmas.Option.{get_or_from_slice_get}
 use Rattle.criteria_model.specs.declared.pairs.Answer.{Answer}
 use Rattle.criteria_model.specs.Pairs.{IsFit}
-use Rattle.fraction_free.specs.Tableau.{Tableau, IsDictionary}
+use Rattle.fraction_free.specs.Dictionary.{DictionaryView, IsDictionary}
 use Rattle.decider.proofs.Standings.{Begun, begun_is_warm, begun_is_cold, brought_none, brought_more, brought_room, brought_up}
 use Rattle.decider.proofs.standing.bring_up.Goals as goal
 use Rattle.decider.proofs.standing.bring_up.Goals.{in-Some, in-None}
@@ -15,8 +15,8 @@ loop-at-init c =
       | in-None w ↦ begun_is_cold c.args.model.now.levels c.args.answers.now.answers c.args.work.now c.match-standing.work c.match-standing.held w.increments.result (w.work-is ∙ w.load.ensures.empty) w.held-is w.increments.ensures.value w.in-None.ensures.standing
     ] in
     let dictionary : IsDictionary c.match-standing.work = elim c.match-standing.branch [
-      | in-Some w ↦ subst (λ (t : Tableau). IsDictionary t) (sym w.work-is) w.in-Some.ensures.dictionary
-      | in-None w ↦ subst (λ (t : Tableau). IsDictionary t) (sym w.work-is) w.load.ensures.dictionary
+      | in-Some w ↦ subst (λ (t : DictionaryView). IsDictionary t) (sym w.work-is) w.in-Some.ensures.dictionary
+      | in-None w ↦ subst (λ (t : DictionaryView). IsDictionary t) (sym w.work-is) w.load.ensures.dictionary
     ] in
     brought_none c.args.model.now.levels c.args.answers.now.answers c.args.work.now c.match-standing.work c.match-standing.held begun dictionary
 

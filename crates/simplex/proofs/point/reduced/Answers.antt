@@ -4,7 +4,7 @@ use Rattle.std.specs.Prelude.{All}
 use Rattle.std.specs.Int.{◌∣◌}
 use Rattle.criteria_model.specs.Rows.{times}
 use Rattle.simplex.proofs.Sizes.{kept}
-use Rattle.simplex.proofs.Quotients.{divisor_positive, multiple_is_positive, quotient_has_no_divisor}
+use Rattle.simplex.proofs.Quotients.{divisor_positive, multiple_is_positive, quotient_is_coprime}
 use Rattle.simplex.proofs.point.reduced.Goals as goal
 
 pub divided-requires-clause-positive : goal.divided-requires-clause-positive
@@ -18,7 +18,7 @@ divided-requires-clause-divides c =
 
 pub returns-clause-reduced : goal.returns-clause-reduced
 returns-clause-reduced c =
-    quotient_has_no_divisor c.args.values.now c.divided.result c.common_divisor.result
+    quotient_is_coprime c.args.values.now c.divided.result c.common_divisor.result
     (divisor_positive c.args.values.now c.common_divisor.result c.requires.vector.some c.requires.positive c.common_divisor.ensures.never_negative c.common_divisor.ensures.divides)
     (c.divided.ensures ∙ ap (λ (n : ℤ). times n c.divided.result) (kept c.common_divisor.result c.common_divisor.ensures.size)) c.common_divisor.ensures.greatest
 

@@ -2,7 +2,7 @@ use Rattle.std.proofs.Common.{◌≡◌, ℕ, ◌+◌, ◌-◌, ◌<◌, ◌^◌
 use mir.Syntax.{w128}
 use Rattle.std.specs.Prelude.{slice_index}
 use Rattle.criteria_model.specs.Lists.{IsVector}
-use Rattle.simplex.specs.Choice.{constant_of}
+use Rattle.fraction_free.specs.Dictionary.{constant_in}
 use Rattle.simplex.specs.Point.{IsScaledPoint}
 use Rattle.simplex.proofs.Variables.{variables_of}
 use Rattle.simplex.proofs.Sizes.{kept, scale_small, entry_small, sum_fits, sum_is}
@@ -38,7 +38,7 @@ loop-at-preserved c =
           (sum_is w.scale.result w.constant.result
           (subst (λ (n : ℤ). unsigned_abs n < 2 ^ 89) (sym w.scale.ensures.value) (scale_small c.args.work.now c.cols.ensures.dictionary))
           (subst (λ (n : ℤ). unsigned_abs n < 2 ^ 89) (sym w.constant.ensures) (entry_small c.args.work.now c.cols.ensures.dictionary (c.loop-at.at + 1 - 1) c.args.work.now.columns (omega (arith, c.rows-at-end.ensures.value)) (omega arith)))
-          ∙ ap (λ (n : ℤ). n +ℤ w.constant.result) w.scale.ensures.value ∙ ap (λ (n : ℤ). c.args.work.now.scale +ℤ n) (w.constant.ensures ∙ ap (constant_of c.args.work.now) place))
+          ∙ ap (λ (n : ℤ). n +ℤ w.constant.result) w.scale.ensures.value ∙ ap (λ (n : ℤ). c.args.work.now.scale +ℤ n) (w.constant.ensures ∙ ap (constant_in c.args.work.now) place))
           w.cells-is c.loop-at.invariant
       | else-variable-columns w ↦
           scaled_past c.args.work.now c.loop-at.at c.loop-at.cells c.if-variable-columns.cells c.basic-variable.result
@@ -49,7 +49,7 @@ pub of-requires : goal.of-requires
 of-requires c =
     let columns : c.from-columns.result ≡ c.args.work.now.columns = c.from-columns.ensures ∙ c.cols.ensures.value in
     subst (λ (n : ℕ). IsVector (take n c.loop-at.cells)) (sym columns)
-    (written_vector (slice_index c.args.work.now.basic) (λ i. c.args.work.now.scale +ℤ constant_of c.args.work.now i) c.args.work.now.scale c.args.work.now.columns c.loop-at.at c.args.work.now.columns c.loop-at.cells
+    (written_vector (slice_index c.args.work.now.basic) (λ i. c.args.work.now.scale +ℤ constant_in c.args.work.now i) c.args.work.now.scale c.args.work.now.columns c.loop-at.at c.args.work.now.columns c.loop-at.cells
     c.cols.ensures.dictionary.columns_some c.cols.ensures.dictionary.columns_most c.loop-at.invariant)
 
 pub returns-clause-point : goal.returns-clause-point

@@ -5,8 +5,8 @@ use Rattle.std.specs.Prelude.{vec_capacity}
 use Rattle.minors.specs.Combination.{IsCombination}
 use Rattle.wide_step.proofs.Integers.{read_back}
 use Rattle.fraction_free.specs.declared.loaded.LoadedRow.{LoadedRow}
-use Rattle.fraction_free.specs.Tableau.{Tableau, IsLoadable}
-use Rattle.fraction_free.specs.Representation.{CanCombine, IsMinorTableau, row_of, square_of}
+use Rattle.fraction_free.specs.Dictionary.{DictionaryView, IsLoadable}
+use Rattle.fraction_free.specs.Representation.{CanCombine, AreMinors, row_of, square_of}
 use Rattle.fraction_free.proofs.AddRow.{added_kept, added_view, can_combine}
 use Rattle.fraction_free.proofs.Kept.{dictionary_from_kept, scale_fits}
 use Rattle.fraction_free.proofs.dictionary.Dictionary.add_row.Goals as goal
@@ -26,8 +26,8 @@ pushed : {X : Type 0} (ok : Bool) (old new : List X) (x : X) → ok ≡ true →
 pushed ok old new x h e = e ∙ ap (λ t. cond t (old ++ x ∷ []) old) h
 
 line_along : (m : ℕ) (l : List LoadedRow) (s t : ℤ) (order : List ℕ) (lines given : List (List ℤ)) (coefficients line : List ℤ) (least u : ℤ) → t ≡ s → given ≡ lines → u ≡ least
-    → ((loaded : List LoadedRow) → IsMinorTableau m loaded t order given → IsCombination t (row_of (record { coefficients = coefficients; least = u })) line (square_of m loaded order))
-    → IsMinorTableau m l s order lines → IsCombination s (row_of (record { coefficients = coefficients; least = least })) line (square_of m l order)
+    → ((loaded : List LoadedRow) → AreMinors m loaded t order given → IsCombination t (row_of (record { coefficients = coefficients; least = u })) line (square_of m loaded order))
+    → AreMinors m l s order lines → IsCombination s (row_of (record { coefficients = coefficients; least = least })) line (square_of m l order)
 line_along m l s t order lines given coefficients line least u i j n h k = rw (sym i, sym n) (h l (rw (i, j) k))
 
 loadable_along : (m : ℕ) (coefficients : List ℤ) (least u : ℤ) → u ≡ least → IsLoadable m (record { coefficients = coefficients; least = u }) → IsLoadable m (record { coefficients = coefficients; least = least })
@@ -37,8 +37,8 @@ pub invariant_of-self : goal.invariant_of-self
 invariant_of-self c =
     let inside = c.self.inside in
     let k = c.self.invariant in
-    let rows : length inside.loaded.items ≡ length c.args.self.now.loaded = ap (λ (t : Tableau). length t.loaded) c.self.view_is in
-    let room_rows : inside.room_rows ≡ c.args.self.now.room_rows = ap (λ (t : Tableau). t.room_rows) c.self.view_is in
+    let rows : length inside.loaded.items ≡ length c.args.self.now.loaded = ap (λ (t : DictionaryView). length t.loaded) c.self.view_is in
+    let room_rows : inside.room_rows ≡ c.args.self.now.room_rows = ap (λ (t : DictionaryView). t.room_rows) c.self.view_is in
     let lines_room : vec_len inside.lines < vec_capacity inside.lines = omega (arith, inside.lines.ok.0, k.minors.lines_len, k.has_lines_room, c.requires.room) in
     let loaded_room : vec_len inside.loaded < vec_capacity inside.loaded = omega (arith, inside.loaded.ok.0, k.has_loaded_room, c.requires.room) in
     let scale_is = read_back w128 inside.scale (omega (arith, scale_fits inside.columns inside.loaded.items inside.scale inside.places.order inside.lines.items k.minors)) in
@@ -58,8 +58,8 @@ pub returns-clause-added : goal.returns-clause-added
 returns-clause-added c =
     let inside = c.self.inside in
     let k = c.self.invariant in
-    let rows : length inside.loaded.items ≡ length c.args.self.now.loaded = ap (λ (t : Tableau). length t.loaded) c.self.view_is in
-    let room_rows : inside.room_rows ≡ c.args.self.now.room_rows = ap (λ (t : Tableau). t.room_rows) c.self.view_is in
+    let rows : length inside.loaded.items ≡ length c.args.self.now.loaded = ap (λ (t : DictionaryView). length t.loaded) c.self.view_is in
+    let room_rows : inside.room_rows ≡ c.args.self.now.room_rows = ap (λ (t : DictionaryView). t.room_rows) c.self.view_is in
     let lines_room : vec_len inside.lines < vec_capacity inside.lines = omega (arith, inside.lines.ok.0, k.minors.lines_len, k.has_lines_room, c.requires.room) in
     let loaded_room : vec_len inside.loaded < vec_capacity inside.loaded = omega (arith, inside.loaded.ok.0, k.has_loaded_room, c.requires.room) in
     let least_is = to_z-of_z w8 c.args.least c.ranges.least in

@@ -1,5 +1,5 @@
 use Rattle.std.proofs.Common.{subst}
-use Rattle.fraction_free.specs.Tableau.{IsDictionary}
+use Rattle.fraction_free.specs.Dictionary.{IsDictionary}
 use Rattle.fraction_free.proofs.Kept.{dictionary_from_kept}
 use Rattle.fraction_free.proofs.dictionary.Dictionary.cols.Goals as goal
 

@@ -3,7 +3,7 @@ use Rattle.std.proofs.lemmas.List.{get_or-drop, get_or_default, length-drop}
 use Rattle.std.proofs.lemmas.List.Edits.{length-swap}
 use Rattle.std.specs.List.{swap}
 use Rattle.fraction_free.specs.Arrangement.{Arranged}
-use Rattle.fraction_free.specs.Tableau.{Tableau}
+use Rattle.fraction_free.specs.Dictionary.{DictionaryView}
 use Rattle.fraction_free.proofs.PivotKept.{swapped_at}
 use Rattle.fraction_free.proofs.DropRow.{AreRowsSwapped, dropped_kept}
 use Rattle.fraction_free.proofs.Kept.{dictionary_from_kept}
@@ -15,9 +15,9 @@ invariant_of-self c =
     let kept = c.self.invariant in
     let t = kept.minors in
     let m = inside.columns in
-    let rows : length inside.loaded.items ≡ length c.args.self.now.loaded = ap (λ (t : Tableau). length t.loaded) c.self.view_is in
-    let columns : m ≡ c.args.self.now.columns = ap (λ (t : Tableau). t.columns) c.self.view_is in
-    let basic : drop (m + 1) inside.places.order ≡ c.args.self.now.basic = ap (λ (t : Tableau). t.basic) c.self.view_is in
+    let rows : length inside.loaded.items ≡ length c.args.self.now.loaded = ap (λ (t : DictionaryView). length t.loaded) c.self.view_is in
+    let columns : m ≡ c.args.self.now.columns = ap (λ (t : DictionaryView). t.columns) c.self.view_is in
+    let basic : drop (m + 1) inside.places.order ≡ c.args.self.now.basic = ap (λ (t : DictionaryView). t.basic) c.self.view_is in
     let order = inside.places.order in
     let at = c.place-at.result in
     let first = c.place-at.result - c.from.result - 1 in

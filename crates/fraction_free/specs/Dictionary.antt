@@ -9,7 +9,7 @@ use Rattle.fraction_free.specs.declared.loaded.LoadedRow.{LoadedRow}
 use Rattle.fraction_free.specs.Arrangement.{IsArrangement}
 
 -- what a dictionary holds; a line has the entries of a row, one for each column, and then its constant
-pub record Tableau : Type 0 where
+pub record DictionaryView : Type 0 where
   pub columns : ℕ
   pub loaded : List LoadedRow
   pub scale : ℤ
@@ -22,18 +22,26 @@ pub record Tableau : Type 0 where
   pub added : ℕ
 
 -- the numbers of a row, counted from 0
-abbrev pub line_of : Tableau → ℕ → List ℤ
-line_of tableau row = slice_index_or tableau.lines row []
+abbrev pub line_of : DictionaryView → ℕ → List ℤ
+line_of dictionary row = slice_index_or dictionary.lines row []
+
+-- the number of a row at a column, by which the nonbasic variable is multiplied
+abbrev pub entry_in : DictionaryView → ℕ → ℕ → ℤ
+entry_in dictionary row column = slice_index_or (line_of dictionary row) column (pos 0)
+
+-- the constant of a row
+abbrev pub constant_in : DictionaryView → ℕ → ℤ
+constant_in dictionary row = slice_index_or (line_of dictionary row) dictionary.columns (pos 0)
 
 -- the variables of the columns, and of the constants
-abbrev pub column_variables : Tableau → List ℕ
-column_variables tableau = tableau.nonbasic ++ 0 ∷ []
+abbrev pub column_variables : DictionaryView → List ℕ
+column_variables dictionary = dictionary.nonbasic ++ 0 ∷ []
 
 -- an assignment satisfies each row: the scale times the basic variable is the constant plus the sum of entry times nonbasic variable.
 -- The value at 0 stands for 1: values over it are rational numbers
-pub record Satisfies (tableau : Tableau) (x : ℕ → ℤ) : Type 0 where
-  pub each : (row : ℕ) → row < length tableau.basic
-      → tableau.scale *ℤ x (slice_index tableau.basic row) ≡ dot (line_of tableau row) (map x (column_variables tableau))
+pub record Satisfies (dictionary : DictionaryView) (x : ℕ → ℤ) : Type 0 where
+  pub each : (row : ℕ) → row < length dictionary.basic
+      → dictionary.scale *ℤ x (slice_index dictionary.basic row) ≡ dot (line_of dictionary row) (map x (column_variables dictionary))
 
 -- the increments of an assignment: one more than the variables
 abbrev pub vector_of : ℕ → (ℕ → ℤ) → List ℤ
@@ -66,22 +74,22 @@ abbrev pub most_size : ℕ
 most_size = 25 * factorial 25
 
 -- what holds of each dictionary
-pub record IsDictionary (tableau : Tableau) : Type 0 where
-  pub columns_some : 1 ≤ tableau.columns
-  pub columns_most : tableau.columns ≤ 24
-  pub columns_room : tableau.columns ≤ tableau.room_columns
-  pub rows_room : length tableau.loaded ≤ tableau.room_rows
-  pub rows_most : tableau.room_rows ≤ 65536
-  pub nonbasic_len : length tableau.nonbasic ≡ tableau.columns
-  pub basic_len : length tableau.basic ≡ length tableau.loaded
-  pub lines_len : length tableau.lines ≡ length tableau.loaded
-  pub line_len : (row : ℕ) → row < length tableau.loaded → length (line_of tableau row) ≡ tableau.columns + 1
-  pub rows : (row : ℕ) → row < length tableau.loaded → IsLoadable tableau.columns (loaded_at tableau.loaded row)
+pub record IsDictionary (dictionary : DictionaryView) : Type 0 where
+  pub columns_some : 1 ≤ dictionary.columns
+  pub columns_most : dictionary.columns ≤ 24
+  pub columns_room : dictionary.columns ≤ dictionary.room_columns
+  pub rows_room : length dictionary.loaded ≤ dictionary.room_rows
+  pub rows_most : dictionary.room_rows ≤ 65536
+  pub nonbasic_len : length dictionary.nonbasic ≡ dictionary.columns
+  pub basic_len : length dictionary.basic ≡ length dictionary.loaded
+  pub lines_len : length dictionary.lines ≡ length dictionary.loaded
+  pub line_len : (row : ℕ) → row < length dictionary.loaded → length (line_of dictionary row) ≡ dictionary.columns + 1
+  pub rows : (row : ℕ) → row < length dictionary.loaded → IsLoadable dictionary.columns (loaded_at dictionary.loaded row)
   -- each variable is that of one column or of one row
-  pub variables : IsArrangement (tableau.nonbasic ++ 0 ∷ tableau.basic)
-  pub positive : pos 1 ≤ℤ tableau.scale
-  pub scale_size : unsigned_abs tableau.scale ≤ most_size
-  pub sizes : (row column : ℕ) → row < length tableau.loaded → column ≤ tableau.columns
-      → unsigned_abs (slice_index_or (line_of tableau row) column (pos 0)) ≤ most_size
+  pub variables : IsArrangement (dictionary.nonbasic ++ 0 ∷ dictionary.basic)
+  pub positive : pos 1 ≤ℤ dictionary.scale
+  pub scale_size : unsigned_abs dictionary.scale ≤ most_size
+  pub sizes : (row column : ℕ) → row < length dictionary.loaded → column ≤ dictionary.columns
+      → unsigned_abs (entry_in dictionary row column) ≤ most_size
   -- the assignments that satisfy it are those of the loaded rows' slacks
-  pub solutions : (x : ℕ → ℤ) → Satisfies tableau x ↔ HasSlacks tableau.columns tableau.loaded x
+  pub solutions : (x : ℕ → ℤ) → Satisfies dictionary x ↔ HasSlacks dictionary.columns dictionary.loaded x

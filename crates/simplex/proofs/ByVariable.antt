@@ -1,4 +1,4 @@
--- A dictionary as a system of equations, to which the laws of the least-index rule apply.
+-- A dictionary by variable, to which the laws of the least-index rule apply.
 use Rattle.std.proofs.Common.{◌≡◌, ◌≢◌, ℕ, zero, suc, ◌+◌, ◌-◌, ◌<◌, ◌≤◌, Bool, true, false, cond, List, [], ◌∷◌, ◌++◌, map, length, get_or, set, ◌⊎◌, inl, inr, ℤ, pos, ◌+ℤ◌, ◌-ℤ◌, ◌*ℤ◌, ◌<ℤ◌, ◌≤ℤ◌, refl, sym, ap, subst, ◌∙◌, arith, length-append}
 use Rattle.std.specs.Prelude.{nat_lt, ◌==◌, slice_index, slice_index_or, slice_set, int_lt, not, ◌&&◌}
 use Rattle.std.proofs.Math.IntN.{*ℤ_comm}
@@ -8,33 +8,33 @@ use Rattle.std.proofs.lemmas.List.{length-map, get_or_append_left, get_or-append
 use Rattle.std.specs.Cmp.Derive.{both_true}
 use Rattle.minors.proofs.Ring.{sums, mul_zero, zero_mul}
 use Rattle.criteria_model.specs.Rows.{dot}
-use Rattle.least_index.specs.System.{System, sum_below, term, right_side}
-use Rattle.least_index.specs.System as system
+use Rattle.least_index.specs.Dictionary.{RationalDictionary, sum_below, term, right_side}
+use Rattle.least_index.specs.Dictionary as rational
 use Rattle.least_index.specs.Rule.{first, is_infeasible, helps, leaving, entering, is_end, next, pivots_left, Covers}
 use Rattle.least_index.proofs.First.{first-is, first-le}
 use Rattle.least_index.proofs.Sums.{sum-ext}
 use Rattle.least_index.proofs.Exchange.{exchange_reflects}
 use Rattle.least_index.proofs.Choice.{and_left, and_right, negative, positive, not_negative, not_positive, choice_is_exchange, next_scale}
 use Rattle.least_index.proofs.Ends.{fall}
-use Rattle.fraction_free.specs.Tableau.{Tableau, line_of, column_variables, IsDictionary, Satisfies}
+use Rattle.fraction_free.specs.Dictionary.{DictionaryView, line_of, column_variables, IsDictionary, Satisfies, constant_in, entry_in}
 use Rattle.fraction_free.specs.Changes.{number_at, IsPivoted}
-use Rattle.simplex.specs.Choice.{constant_of, entry_of, IsLeavingRow, IsEnteringColumn}
+use Rattle.simplex.specs.Choice.{IsLeavingRow, IsEnteringColumn}
 use Rattle.simplex.proofs.Positions.{AreDistinct, place_in, place-of, place-found, place-none, placed, sum-placed, dot-sum}
 use Rattle.simplex.proofs.Variables.{HasVariables, variables_of}
 
-abbrev pub row_place : Tableau → ℕ → ℕ
+abbrev pub row_place : DictionaryView → ℕ → ℕ
 row_place d v = place_in (slice_index d.basic) (length d.loaded) v
 
-abbrev pub column_place : Tableau → ℕ → ℕ
+abbrev pub column_place : DictionaryView → ℕ → ℕ
 column_place d w = place_in (slice_index d.nonbasic) d.columns w
 
-abbrev pub system_of : Tableau → System
-system_of d = record {
+abbrev pub by_variable : DictionaryView → RationalDictionary
+by_variable d = record {
   size = d.columns + 1 + length d.loaded;
   scale = d.scale;
   is_basic = λ v. nat_lt (row_place d v) (length d.loaded);
-  entry = λ v w. cond (nat_lt (column_place d w) d.columns) (entry_of d (row_place d v) (column_place d w)) (pos 0);
-  constant = λ v. constant_of d (row_place d v);
+  entry = λ v w. cond (nat_lt (column_place d w) d.columns) (entry_in d (row_place d v) (column_place d w)) (pos 0);
+  constant = λ v. constant_in d (row_place d v);
 }
 
 -- the values with that of the constant 1 at 0
@@ -46,24 +46,24 @@ with_one-same one x v low = cond-false (v == 0) one (x v) (false_from_ne_true (v
 
 -- ---- which variables are basic
 
-pub basic_at : (d : Tableau) → HasVariables d → (i : ℕ) → i < length d.loaded → row_place d (slice_index d.basic i) ≡ i
+pub basic_at : (d : DictionaryView) → HasVariables d → (i : ℕ) → i < length d.loaded → row_place d (slice_index d.basic i) ≡ i
 basic_at d vs i lt = place-of (slice_index d.basic) (length d.loaded) i vs.basic_distinct lt
 
-pub basic_is_basic : (d : Tableau) → HasVariables d → (i : ℕ) → i < length d.loaded → (system_of d).is_basic (slice_index d.basic i) ≡ true
+pub basic_is_basic : (d : DictionaryView) → HasVariables d → (i : ℕ) → i < length d.loaded → (by_variable d).is_basic (slice_index d.basic i) ≡ true
 basic_is_basic d vs i lt = ap (λ (n : ℕ). nat_lt n (length d.loaded)) (basic_at d vs i lt) ∙ lt-ltb i (length d.loaded) lt
 
-pub basic_found : (d : Tableau) (v : ℕ) → (system_of d).is_basic v ≡ true → (row_place d v < length d.loaded) × (slice_index d.basic (row_place d v) ≡ v)
+pub basic_found : (d : DictionaryView) (v : ℕ) → (by_variable d).is_basic v ≡ true → (row_place d v < length d.loaded) × (slice_index d.basic (row_place d v) ≡ v)
 basic_found d v b =
     let lt : row_place d v < length d.loaded = ltb-true (row_place d v) (length d.loaded) b in
     (lt, place-found (slice_index d.basic) (length d.loaded) v lt)
 
-pub not_basic : (d : Tableau) (v : ℕ) → ((i : ℕ) → i < length d.loaded → slice_index d.basic i ≢ v) → (system_of d).is_basic v ≡ false
-not_basic d v none = false_from_ne_true ((system_of d).is_basic v) (λ b. let f = basic_found d v b in none (row_place d v) f.0 f.1)
+pub not_basic : (d : DictionaryView) (v : ℕ) → ((i : ℕ) → i < length d.loaded → slice_index d.basic i ≢ v) → (by_variable d).is_basic v ≡ false
+not_basic d v none = false_from_ne_true ((by_variable d).is_basic v) (λ b. let f = basic_found d v b in none (row_place d v) f.0 f.1)
 
-pub nonbasic_at : (d : Tableau) → HasVariables d → (j : ℕ) → j < d.columns → column_place d (slice_index d.nonbasic j) ≡ j
+pub nonbasic_at : (d : DictionaryView) → HasVariables d → (j : ℕ) → j < d.columns → column_place d (slice_index d.nonbasic j) ≡ j
 nonbasic_at d vs j lt = place-of (slice_index d.nonbasic) d.columns j vs.nonbasic_distinct lt
 
-pub nonbasic_is_not_basic : (d : Tableau) → HasVariables d → (j : ℕ) → j < d.columns → (system_of d).is_basic (slice_index d.nonbasic j) ≡ false
+pub nonbasic_is_not_basic : (d : DictionaryView) → HasVariables d → (j : ℕ) → j < d.columns → (by_variable d).is_basic (slice_index d.nonbasic j) ≡ false
 nonbasic_is_not_basic d vs j lt = not_basic d (slice_index d.nonbasic j) (λ i li e. vs.apart i j li lt e)
 
 -- ---- its equations
@@ -75,27 +75,27 @@ no_or false true e x h = refl
 no_or false false e x h = zero_mul x
 
 -- the sum of a row's entries times the nonbasic variables, over all variables
-row_terms : (d : Tableau) → HasVariables d → (x : ℕ → ℤ) (v i : ℕ) → row_place d v ≡ i
-    → sum_below (term (system_of d) v x) (d.columns + 1 + length d.loaded) ≡ sum_below (λ j. entry_of d i j *ℤ x (slice_index d.nonbasic j)) d.columns
+row_terms : (d : DictionaryView) → HasVariables d → (x : ℕ → ℤ) (v i : ℕ) → row_place d v ≡ i
+    → sum_below (term (by_variable d) v x) (d.columns + 1 + length d.loaded) ≡ sum_below (λ j. entry_in d i j *ℤ x (slice_index d.nonbasic j)) d.columns
 row_terms d vs x v i at =
-    sum-ext (term (system_of d) v x) (placed (slice_index d.nonbasic) d.columns (λ j. entry_of d i j *ℤ x (slice_index d.nonbasic j)) d.columns) (d.columns + 1 + length d.loaded)
+    sum-ext (term (by_variable d) v x) (placed (slice_index d.nonbasic) d.columns (λ j. entry_in d i j *ℤ x (slice_index d.nonbasic j)) d.columns) (d.columns + 1 + length d.loaded)
     (λ w lt.
-    no_or ((system_of d).is_basic w) (nat_lt (column_place d w) d.columns) (entry_of d (row_place d v) (column_place d w)) (x w)
+    no_or ((by_variable d).is_basic w) (nat_lt (column_place d w) d.columns) (entry_in d (row_place d v) (column_place d w)) (x w)
     (λ c. let l : column_place d w < d.columns = ltb-true (column_place d w) d.columns c in
-    ap (system_of d).is_basic (sym (place-found (slice_index d.nonbasic) d.columns w l)) ∙ nonbasic_is_not_basic d vs (column_place d w) l)
-    ∙ same_value (nat_lt (column_place d w) d.columns) (entry_of d (row_place d v) (column_place d w) *ℤ x w) (entry_of d i (column_place d w) *ℤ x (slice_index d.nonbasic (column_place d w)))
+    ap (by_variable d).is_basic (sym (place-found (slice_index d.nonbasic) d.columns w l)) ∙ nonbasic_is_not_basic d vs (column_place d w) l)
+    ∙ same_value (nat_lt (column_place d w) d.columns) (entry_in d (row_place d v) (column_place d w) *ℤ x w) (entry_in d i (column_place d w) *ℤ x (slice_index d.nonbasic (column_place d w)))
     (λ c. let l : column_place d w < d.columns = ltb-true (column_place d w) d.columns c in
-    ap (λ (n : ℕ). entry_of d n (column_place d w) *ℤ x w) at
-    ∙ ap (λ (n : ℕ). entry_of d i (column_place d w) *ℤ x n) (sym (place-found (slice_index d.nonbasic) d.columns w l))))
-    ∙ sum-placed (slice_index d.nonbasic) d.columns (λ j. entry_of d i j *ℤ x (slice_index d.nonbasic j)) (d.columns + 1 + length d.loaded) d.columns vs.nonbasic_distinct
+    ap (λ (n : ℕ). entry_in d n (column_place d w) *ℤ x w) at
+    ∙ ap (λ (n : ℕ). entry_in d i (column_place d w) *ℤ x n) (sym (place-found (slice_index d.nonbasic) d.columns w l))))
+    ∙ sum-placed (slice_index d.nonbasic) d.columns (λ j. entry_in d i j *ℤ x (slice_index d.nonbasic j)) (d.columns + 1 + length d.loaded) d.columns vs.nonbasic_distinct
     (λ j lt. let high = vs.nonbasic_high j lt in omega arith) (omega arith)
   where
     same_value : (c : Bool) (a b : ℤ) → (c ≡ true → a ≡ b) → cond c a (pos 0) ≡ cond c b (pos 0)
     same_value true a b h = h refl
     same_value false a b h = refl
 
-pub equation_sum : (d : Tableau) → IsDictionary d → (y : ℕ → ℤ) (i : ℕ) → i < length d.loaded
-    → dot (line_of d i) (map y (column_variables d)) ≡ sum_below (λ j. entry_of d i j *ℤ y (slice_index d.nonbasic j)) d.columns +ℤ constant_of d i *ℤ y 0
+pub equation_sum : (d : DictionaryView) → IsDictionary d → (y : ℕ → ℤ) (i : ℕ) → i < length d.loaded
+    → dot (line_of d i) (map y (column_variables d)) ≡ sum_below (λ j. entry_in d i j *ℤ y (slice_index d.nonbasic j)) d.columns +ℤ constant_in d i *ℤ y 0
 unfolding sum_below
 equation_sum d is y i lt =
     let line_len : length (line_of d i) ≡ suc d.columns = let l = is.line_len i lt in omega arith in
@@ -103,9 +103,9 @@ equation_sum d is y i lt =
     dot-sum (line_of d i) (map y (column_variables d)) (line_len ∙ sym variables_len)
     ∙ ap (sum_below (λ j. get_or (line_of d i) j (pos 0) *ℤ get_or (map y (column_variables d)) j (pos 0))) line_len
     ∙ ap (λ (s : ℤ). s +ℤ get_or (line_of d i) d.columns (pos 0) *ℤ get_or (map y (column_variables d)) d.columns (pos 0))
-    (sum-ext (λ j. get_or (line_of d i) j (pos 0) *ℤ get_or (map y (column_variables d)) j (pos 0)) (λ j. entry_of d i j *ℤ y (slice_index d.nonbasic j)) d.columns
+    (sum-ext (λ j. get_or (line_of d i) j (pos 0) *ℤ get_or (map y (column_variables d)) j (pos 0)) (λ j. entry_in d i j *ℤ y (slice_index d.nonbasic j)) d.columns
     (λ j l. ap (λ (n : ℤ). get_or (line_of d i) j (pos 0) *ℤ n) (at_column j l)))
-    ∙ ap (λ (n : ℤ). sum_below (λ j. entry_of d i j *ℤ y (slice_index d.nonbasic j)) d.columns +ℤ get_or (line_of d i) d.columns (pos 0) *ℤ n) at_constant
+    ∙ ap (λ (n : ℤ). sum_below (λ j. entry_in d i j *ℤ y (slice_index d.nonbasic j)) d.columns +ℤ get_or (line_of d i) d.columns (pos 0) *ℤ n) at_constant
   where
     len : length (column_variables d) ≡ suc d.columns
     len = length-append d.nonbasic (0 ∷ []) ∙ omega (arith, is.nonbasic_len)
@@ -124,20 +124,20 @@ equation_sum d is y i lt =
 swap_sum : (a b : ℤ) → a +ℤ b ≡ b +ℤ a
 swap_sum a b = omega (arith, sums)
 
-pub right_side_is : (d : Tableau) → IsDictionary d → (one : ℤ) (x : ℕ → ℤ) (v i : ℕ) → i < length d.loaded → row_place d v ≡ i
-    → right_side (system_of d) one x v ≡ dot (line_of d i) (map (with_one one x) (column_variables d))
+pub right_side_is : (d : DictionaryView) → IsDictionary d → (one : ℤ) (x : ℕ → ℤ) (v i : ℕ) → i < length d.loaded → row_place d v ≡ i
+    → right_side (by_variable d) one x v ≡ dot (line_of d i) (map (with_one one x) (column_variables d))
 right_side_is d is one x v i lt at =
     let vs : HasVariables d = variables_of d is in
-    ap (λ (n : ℕ). constant_of d n *ℤ one +ℤ sum_below (term (system_of d) v x) (d.columns + 1 + length d.loaded)) at
-    ∙ ap (λ (s : ℤ). constant_of d i *ℤ one +ℤ s)
+    ap (λ (n : ℕ). constant_in d n *ℤ one +ℤ sum_below (term (by_variable d) v x) (d.columns + 1 + length d.loaded)) at
+    ∙ ap (λ (s : ℤ). constant_in d i *ℤ one +ℤ s)
     (row_terms d vs x v i at
-    ∙ sum-ext (λ j. entry_of d i j *ℤ x (slice_index d.nonbasic j)) (λ j. entry_of d i j *ℤ with_one one x (slice_index d.nonbasic j)) d.columns
-    (λ j l. ap (λ (n : ℤ). entry_of d i j *ℤ n) (sym (with_one-same one x (slice_index d.nonbasic j) (vs.nonbasic_low j l)))))
-    ∙ swap_sum (constant_of d i *ℤ one) (sum_below (λ j. entry_of d i j *ℤ with_one one x (slice_index d.nonbasic j)) d.columns)
+    ∙ sum-ext (λ j. entry_in d i j *ℤ x (slice_index d.nonbasic j)) (λ j. entry_in d i j *ℤ with_one one x (slice_index d.nonbasic j)) d.columns
+    (λ j l. ap (λ (n : ℤ). entry_in d i j *ℤ n) (sym (with_one-same one x (slice_index d.nonbasic j) (vs.nonbasic_low j l)))))
+    ∙ swap_sum (constant_in d i *ℤ one) (sum_below (λ j. entry_in d i j *ℤ with_one one x (slice_index d.nonbasic j)) d.columns)
     ∙ sym (equation_sum d is (with_one one x) i lt)
 
-pub to_system : (d : Tableau) → IsDictionary d → (one : ℤ) (x : ℕ → ℤ) → Satisfies d (with_one one x) → system.Satisfies (system_of d) one x
-to_system d is one x sat = record {
+pub to_by_variable : (d : DictionaryView) → IsDictionary d → (one : ℤ) (x : ℕ → ℤ) → Satisfies d (with_one one x) → rational.IsSolution (by_variable d) one x
+to_by_variable d is one x sat = record {
   each = λ v lt b.
       let f = basic_found d v b in
       let vs : HasVariables d = variables_of d is in
@@ -148,8 +148,8 @@ to_system d is one x sat = record {
       ∙ sym (right_side_is d is one x v (row_place d v) f.0 refl);
 }
 
-pub from_system : (d : Tableau) → IsDictionary d → (one : ℤ) (x : ℕ → ℤ) → system.Satisfies (system_of d) one x → Satisfies d (with_one one x)
-from_system d is one x sat = record {
+pub from_by_variable : (d : DictionaryView) → IsDictionary d → (one : ℤ) (x : ℕ → ℤ) → rational.IsSolution (by_variable d) one x → Satisfies d (with_one one x)
+from_by_variable d is one x sat = record {
   each = λ i lt.
       let vs : HasVariables d = variables_of d is in
       let within : i < length d.loaded = omega (arith, lt, is.basic_len) in
@@ -167,81 +167,81 @@ negative_test a h = true_from_ne_false (int_lt a (pos 0)) (λ e. let g = not_neg
 positive_test : (a : ℤ) → pos 0 <ℤ a → int_lt (pos 0) a ≡ true
 positive_test a h = true_from_ne_false (int_lt (pos 0) a) (λ e. let g = not_positive a e in omega (arith, ints))
 
-pub leaving_is : (d : Tableau) → IsDictionary d → (row : ℕ) → IsLeavingRow d row → leaving (system_of d) ≡ slice_index d.basic row
+pub leaving_is : (d : DictionaryView) → IsDictionary d → (row : ℕ) → IsLeavingRow d row → leaving (by_variable d) ≡ slice_index d.basic row
 unfolding leaving
 leaving_is d is row l =
-    first-is (is_infeasible (system_of d)) (d.columns + 1 + length d.loaded) (slice_index d.basic row)
+    first-is (is_infeasible (by_variable d)) (d.columns + 1 + length d.loaded) (slice_index d.basic row)
     (let high = vs.basic_high row l.within in omega arith)
-    (both_true (basic_is_basic d vs row l.within) (ap (λ (n : ℕ). int_lt (constant_of d n) (pos 0)) (basic_at d vs row l.within) ∙ negative_test (constant_of d row) l.negative))
-    (λ v lt. false_from_ne_true (is_infeasible (system_of d) v) (λ e.
-    let f = basic_found d v (and_left ((system_of d).is_basic v) (int_lt (constant_of d (row_place d v)) (pos 0)) e) in
+    (both_true (basic_is_basic d vs row l.within) (ap (λ (n : ℕ). int_lt (constant_in d n) (pos 0)) (basic_at d vs row l.within) ∙ negative_test (constant_in d row) l.negative))
+    (λ v lt. false_from_ne_true (is_infeasible (by_variable d) v) (λ e.
+    let f = basic_found d v (and_left ((by_variable d).is_basic v) (int_lt (constant_in d (row_place d v)) (pos 0)) e) in
     let le : slice_index d.basic row ≤ slice_index d.basic (row_place d v) =
-    l.least (row_place d v) f.0 (negative (constant_of d (row_place d v)) (and_right ((system_of d).is_basic v) (int_lt (constant_of d (row_place d v)) (pos 0)) e)) in
+    l.least (row_place d v) f.0 (negative (constant_in d (row_place d v)) (and_right ((by_variable d).is_basic v) (int_lt (constant_in d (row_place d v)) (pos 0)) e)) in
     let same : slice_index d.basic (row_place d v) ≡ v = f.1 in
     omega arith))
   where
     vs : HasVariables d
     vs = variables_of d is
 
-entering_first : (d : Tableau) → IsDictionary d → (row column : ℕ) → row < length d.loaded → IsEnteringColumn d row column
-    → first (helps (system_of d) (slice_index d.basic row)) (d.columns + 1 + length d.loaded) ≡ slice_index d.nonbasic column
+entering_first : (d : DictionaryView) → IsDictionary d → (row column : ℕ) → row < length d.loaded → IsEnteringColumn d row column
+    → first (helps (by_variable d) (slice_index d.basic row)) (d.columns + 1 + length d.loaded) ≡ slice_index d.nonbasic column
 entering_first d is row column within e =
-    first-is (helps (system_of d) (slice_index d.basic row)) (d.columns + 1 + length d.loaded) (slice_index d.nonbasic column)
+    first-is (helps (by_variable d) (slice_index d.basic row)) (d.columns + 1 + length d.loaded) (slice_index d.nonbasic column)
     (let high = vs.nonbasic_high column e.within in omega arith)
-    (both_true (not_from_false ((system_of d).is_basic (slice_index d.nonbasic column)) (nonbasic_is_not_basic d vs column e.within))
-    (ap (int_lt (pos 0)) (entry_at (slice_index d.nonbasic column) column (nonbasic_at d vs column e.within) e.within) ∙ positive_test (entry_of d row column) e.positive))
-    (λ w lt. false_from_ne_true (helps (system_of d) (slice_index d.basic row) w) (λ h.
-    helper w lt (and_right (not ((system_of d).is_basic w)) (int_lt (pos 0) ((system_of d).entry (slice_index d.basic row) w)) h)
+    (both_true (not_from_false ((by_variable d).is_basic (slice_index d.nonbasic column)) (nonbasic_is_not_basic d vs column e.within))
+    (ap (int_lt (pos 0)) (entry_at (slice_index d.nonbasic column) column (nonbasic_at d vs column e.within) e.within) ∙ positive_test (entry_in d row column) e.positive))
+    (λ w lt. false_from_ne_true (helps (by_variable d) (slice_index d.basic row) w) (λ h.
+    helper w lt (and_right (not ((by_variable d).is_basic w)) (int_lt (pos 0) ((by_variable d).entry (slice_index d.basic row) w)) h)
     (cases_Bool (nat_lt (column_place d w) d.columns))))
   where
     vs : HasVariables d
     vs = variables_of d is
 
-    entry_at : (w j : ℕ) → column_place d w ≡ j → j < d.columns → (system_of d).entry (slice_index d.basic row) w ≡ entry_of d row j
+    entry_at : (w j : ℕ) → column_place d w ≡ j → j < d.columns → (by_variable d).entry (slice_index d.basic row) w ≡ entry_in d row j
     entry_at w j at lt =
-        cond-true (nat_lt (column_place d w) d.columns) (entry_of d (row_place d (slice_index d.basic row)) (column_place d w)) (pos 0) (ap (λ (n : ℕ). nat_lt n d.columns) at ∙ lt-ltb j d.columns lt)
-        ∙ ap (λ (n : ℕ). entry_of d n (column_place d w)) (basic_at d vs row within)
-        ∙ ap (entry_of d row) at
+        cond-true (nat_lt (column_place d w) d.columns) (entry_in d (row_place d (slice_index d.basic row)) (column_place d w)) (pos 0) (ap (λ (n : ℕ). nat_lt n d.columns) at ∙ lt-ltb j d.columns lt)
+        ∙ ap (λ (n : ℕ). entry_in d n (column_place d w)) (basic_at d vs row within)
+        ∙ ap (entry_in d row) at
 
-    helper : (w : ℕ) → w < slice_index d.nonbasic column → int_lt (pos 0) ((system_of d).entry (slice_index d.basic row) w) ≡ true
+    helper : (w : ℕ) → w < slice_index d.nonbasic column → int_lt (pos 0) ((by_variable d).entry (slice_index d.basic row) w) ≡ true
         → (nat_lt (column_place d w) d.columns ≡ true) ⊎ (nat_lt (column_place d w) d.columns ≡ false) → ⊥
     helper w lt t (inl c) =
         let l : column_place d w < d.columns = ltb-true (column_place d w) d.columns c in
         let same : slice_index d.nonbasic (column_place d w) ≡ w = place-found (slice_index d.nonbasic) d.columns w l in
         let le : slice_index d.nonbasic column ≤ slice_index d.nonbasic (column_place d w) =
-        e.least (column_place d w) l (positive (entry_of d row (column_place d w)) (ap (int_lt (pos 0)) (sym (entry_at w (column_place d w) refl l)) ∙ t)) in
+        e.least (column_place d w) l (positive (entry_in d row (column_place d w)) (ap (int_lt (pos 0)) (sym (entry_at w (column_place d w) refl l)) ∙ t)) in
         omega arith
     helper w lt t (inr c) =
-        false≢true (ap (int_lt (pos 0)) (sym (cond-false (nat_lt (column_place d w) d.columns) (entry_of d (row_place d (slice_index d.basic row)) (column_place d w)) (pos 0) c)) ∙ t)
+        false≢true (ap (int_lt (pos 0)) (sym (cond-false (nat_lt (column_place d w) d.columns) (entry_in d (row_place d (slice_index d.basic row)) (column_place d w)) (pos 0) c)) ∙ t)
 
-pub entering_is : (d : Tableau) → IsDictionary d → (row column : ℕ) → IsLeavingRow d row → IsEnteringColumn d row column → entering (system_of d) ≡ slice_index d.nonbasic column
+pub entering_is : (d : DictionaryView) → IsDictionary d → (row column : ℕ) → IsLeavingRow d row → IsEnteringColumn d row column → entering (by_variable d) ≡ slice_index d.nonbasic column
 unfolding entering
 entering_is d is row column l e =
-    ap (λ (r : ℕ). first (helps (system_of d) r) (d.columns + 1 + length d.loaded)) (leaving_is d is row l)
+    ap (λ (r : ℕ). first (helps (by_variable d) r) (d.columns + 1 + length d.loaded)) (leaving_is d is row l)
     ∙ entering_first d is row column l.within e
 
-pub not_end : (d : Tableau) → IsDictionary d → (row column : ℕ) → IsLeavingRow d row → IsEnteringColumn d row column → is_end (system_of d) ≡ false
+pub not_end : (d : DictionaryView) → IsDictionary d → (row column : ℕ) → IsLeavingRow d row → IsEnteringColumn d row column → is_end (by_variable d) ≡ false
 not_end d is row column l e =
     let vs : HasVariables d = variables_of d is in
     let high = vs.basic_high row l.within in
     let high_too = vs.nonbasic_high column e.within in
-    not_from_true (nat_lt (leaving (system_of d)) (d.columns + 1 + length d.loaded) && nat_lt (entering (system_of d)) (d.columns + 1 + length d.loaded))
+    not_from_true (nat_lt (leaving (by_variable d)) (d.columns + 1 + length d.loaded) && nat_lt (entering (by_variable d)) (d.columns + 1 + length d.loaded))
     (both_true
-    (lt-ltb (leaving (system_of d)) (d.columns + 1 + length d.loaded) (omega (arith, leaving_is d is row l)))
-    (lt-ltb (entering (system_of d)) (d.columns + 1 + length d.loaded) (omega (arith, entering_is d is row column l e))))
+    (lt-ltb (leaving (by_variable d)) (d.columns + 1 + length d.loaded) (omega (arith, leaving_is d is row l)))
+    (lt-ltb (entering (by_variable d)) (d.columns + 1 + length d.loaded) (omega (arith, entering_is d is row column l e))))
 
 -- ---- a pivot by it
 
-positive_scale : (d : Tableau) → IsDictionary d → pos 0 <ℤ d.scale
+positive_scale : (d : DictionaryView) → IsDictionary d → pos 0 <ℤ d.scale
 positive_scale d is = let h = is.positive in omega (arith, ints)
 
 -- which variables are basic after an exchange
-basis_after : (d new : Tableau) → IsDictionary d → IsDictionary new → (row column : ℕ) → row < length d.loaded → column < d.columns
+basis_after : (d new : DictionaryView) → IsDictionary d → IsDictionary new → (row column : ℕ) → row < length d.loaded → column < d.columns
     → new.loaded ≡ d.loaded → new.basic ≡ slice_set d.basic row (slice_index d.nonbasic column)
     → (v : ℕ)
-    → (system_of new).is_basic v ≡ cond (v == slice_index d.nonbasic column) true (cond (v == slice_index d.basic row) false ((system_of d).is_basic v))
+    → (by_variable new).is_basic v ≡ cond (v == slice_index d.nonbasic column) true (cond (v == slice_index d.basic row) false ((by_variable d).is_basic v))
 basis_after d new is is_new row column within inside loaded basic v =
-    split (cases_Bool (v == slice_index d.nonbasic column)) (cases_Bool (v == slice_index d.basic row)) (cases_Bool ((system_of d).is_basic v))
+    split (cases_Bool (v == slice_index d.nonbasic column)) (cases_Bool (v == slice_index d.basic row)) (cases_Bool ((by_variable d).is_basic v))
   where
     vs : HasVariables d
     vs = variables_of d is
@@ -259,21 +259,21 @@ basis_after d new is is_new row column within inside loaded basic v =
     there i ne = ap (λ (l : List ℕ). slice_index l i) basic ∙ get_or-set_other d.basic row i (slice_index d.nonbasic column) 0 ne
 
     value : ℕ → Bool
-    value v = cond (v == slice_index d.nonbasic column) true (cond (v == slice_index d.basic row) false ((system_of d).is_basic v))
+    value v = cond (v == slice_index d.nonbasic column) true (cond (v == slice_index d.basic row) false ((by_variable d).is_basic v))
 
     split : ((v == slice_index d.nonbasic column) ≡ true) ⊎ ((v == slice_index d.nonbasic column) ≡ false)
         → ((v == slice_index d.basic row) ≡ true) ⊎ ((v == slice_index d.basic row) ≡ false)
-        → ((system_of d).is_basic v ≡ true) ⊎ ((system_of d).is_basic v ≡ false)
-        → (system_of new).is_basic v ≡ cond (v == slice_index d.nonbasic column) true (cond (v == slice_index d.basic row) false ((system_of d).is_basic v))
+        → ((by_variable d).is_basic v ≡ true) ⊎ ((by_variable d).is_basic v ≡ false)
+        → (by_variable new).is_basic v ≡ cond (v == slice_index d.nonbasic column) true (cond (v == slice_index d.basic row) false ((by_variable d).is_basic v))
     split (inl a) r b =
         let same : v ≡ slice_index d.nonbasic column = eqb-true v (slice_index d.nonbasic column) a in
-        ap (system_of new).is_basic (same ∙ sym here) ∙ basic_is_basic new ws row (omega (arith, rows, within))
-        ∙ sym (cond-true (v == slice_index d.nonbasic column) true (cond (v == slice_index d.basic row) false ((system_of d).is_basic v)) a)
+        ap (by_variable new).is_basic (same ∙ sym here) ∙ basic_is_basic new ws row (omega (arith, rows, within))
+        ∙ sym (cond-true (v == slice_index d.nonbasic column) true (cond (v == slice_index d.basic row) false ((by_variable d).is_basic v)) a)
     split (inr a) (inl r) b =
         let same : v ≡ slice_index d.basic row = eqb-true v (slice_index d.basic row) r in
         not_basic new v (λ i li e. no_place i li e same (cases_Bool (i == row)))
-        ∙ sym (cond-false (v == slice_index d.nonbasic column) true (cond (v == slice_index d.basic row) false ((system_of d).is_basic v)) a
-        ∙ cond-true (v == slice_index d.basic row) false ((system_of d).is_basic v) r)
+        ∙ sym (cond-false (v == slice_index d.nonbasic column) true (cond (v == slice_index d.basic row) false ((by_variable d).is_basic v)) a
+        ∙ cond-true (v == slice_index d.basic row) false ((by_variable d).is_basic v) r)
       where
         no_place : (i : ℕ) → i < length new.loaded → slice_index new.basic i ≡ v → v ≡ slice_index d.basic row → ((i == row) ≡ true) ⊎ ((i == row) ≡ false) → ⊥
         no_place i li e same (inl t) =
@@ -285,13 +285,13 @@ basis_after d new is is_new row column within inside loaded basic v =
     split (inr a) (inr r) (inl b) =
         let f = basic_found d v b in
         let ne : row_place d v ≢ row = λ e. eqb-false v (slice_index d.basic row) r (sym f.1 ∙ ap (slice_index d.basic) e) in
-        ap (system_of new).is_basic (sym f.1 ∙ sym (there (row_place d v) ne)) ∙ basic_is_basic new ws (row_place d v) (omega (arith, f.0, rows))
-        ∙ sym (cond-false (v == slice_index d.nonbasic column) true (cond (v == slice_index d.basic row) false ((system_of d).is_basic v)) a
-        ∙ cond-false (v == slice_index d.basic row) false ((system_of d).is_basic v) r ∙ b)
+        ap (by_variable new).is_basic (sym f.1 ∙ sym (there (row_place d v) ne)) ∙ basic_is_basic new ws (row_place d v) (omega (arith, f.0, rows))
+        ∙ sym (cond-false (v == slice_index d.nonbasic column) true (cond (v == slice_index d.basic row) false ((by_variable d).is_basic v)) a
+        ∙ cond-false (v == slice_index d.basic row) false ((by_variable d).is_basic v) r ∙ b)
     split (inr a) (inr r) (inr b) =
         not_basic new v (λ i li e. no_place i li e (cases_Bool (i == row)))
-        ∙ sym (cond-false (v == slice_index d.nonbasic column) true (cond (v == slice_index d.basic row) false ((system_of d).is_basic v)) a
-        ∙ cond-false (v == slice_index d.basic row) false ((system_of d).is_basic v) r ∙ b)
+        ∙ sym (cond-false (v == slice_index d.nonbasic column) true (cond (v == slice_index d.basic row) false ((by_variable d).is_basic v)) a
+        ∙ cond-false (v == slice_index d.basic row) false ((by_variable d).is_basic v) r ∙ b)
       where
         no_place : (i : ℕ) → i < length new.loaded → slice_index new.basic i ≡ v → ((i == row) ≡ true) ⊎ ((i == row) ≡ false) → ⊥
         no_place i li e (inl t) =
@@ -299,33 +299,33 @@ basis_after d new is is_new row column within inside loaded basic v =
             eqb-false v (slice_index d.nonbasic column) a (sym e ∙ ap (slice_index new.basic) at ∙ here)
         no_place i li e (inr f) =
             let ne : i ≢ row = eqb-false i row f in
-            true≢false (sym (basic_is_basic d vs i (omega (arith, rows))) ∙ ap (system_of d).is_basic (sym (there i ne) ∙ e) ∙ b)
+            true≢false (sym (basic_is_basic d vs i (omega (arith, rows))) ∙ ap (by_variable d).is_basic (sym (there i ne) ∙ e) ∙ b)
 
-pub covers_next : (d new : Tableau) → IsDictionary d → IsDictionary new → (row column : ℕ) → IsLeavingRow d row → IsEnteringColumn d row column
+pub covers_next : (d new : DictionaryView) → IsDictionary d → IsDictionary new → (row column : ℕ) → IsLeavingRow d row → IsEnteringColumn d row column
     → new.loaded ≡ d.loaded → new.columns ≡ d.columns → new.basic ≡ slice_set d.basic row (slice_index d.nonbasic column)
     → ((x : ℕ → ℤ) → Satisfies d x → Satisfies new x)
-    → Covers (next (system_of d)) (system_of new)
+    → Covers (next (by_variable d)) (by_variable new)
 unfolding next
 covers_next d new is is_new row column l e loaded columns basic solutions =
-    let going : is_end (system_of d) ≡ false = not_end d is row column l e in
+    let going : is_end (by_variable d) ≡ false = not_end d is row column l e in
     record {
       size = ap (λ (n : ℕ). n + 1 + length new.loaded) columns ∙ ap (λ (r : ℕ). d.columns + 1 + r) (ap length loaded);
       basis = λ v lt.
           basis_after d new is is_new row column l.within e.within loaded basic v
-          ∙ ap (λ (n : ℕ). cond (v == n) true (cond (v == slice_index d.basic row) false ((system_of d).is_basic v))) (sym (entering_is d is row column l e))
-          ∙ ap (λ (n : ℕ). cond (v == entering (system_of d)) true (cond (v == n) false ((system_of d).is_basic v))) (sym (leaving_is d is row l));
-      positive = next_scale (system_of d) (positive_scale d is) going;
+          ∙ ap (λ (n : ℕ). cond (v == n) true (cond (v == slice_index d.basic row) false ((by_variable d).is_basic v))) (sym (entering_is d is row column l e))
+          ∙ ap (λ (n : ℕ). cond (v == entering (by_variable d)) true (cond (v == n) false ((by_variable d).is_basic v))) (sym (leaving_is d is row l));
+      positive = next_scale (by_variable d) (positive_scale d is) going;
       other_positive = positive_scale new is_new;
       solutions = λ one x sat.
-          to_system new is_new one x (solutions (with_one one x)
-          (from_system d is one x (exchange_reflects (system_of d) (leaving (system_of d)) (entering (system_of d)) one x (choice_is_exchange (system_of d) (positive_scale d is) going) sat)));
+          to_by_variable new is_new one x (solutions (with_one one x)
+          (from_by_variable d is one x (exchange_reflects (by_variable d) (leaving (by_variable d)) (entering (by_variable d)) one x (choice_is_exchange (by_variable d) (positive_scale d is) going) sat)));
     }
 
 -- a pivot by the rule leaves fewer pivots to make
-pub pivot_falls : (d new : Tableau) → IsDictionary d → IsDictionary new → (row column : ℕ) → IsLeavingRow d row → IsEnteringColumn d row column
+pub pivot_falls : (d new : DictionaryView) → IsDictionary d → IsDictionary new → (row column : ℕ) → IsLeavingRow d row → IsEnteringColumn d row column
     → new.loaded ≡ d.loaded → new.columns ≡ d.columns → new.basic ≡ slice_set d.basic row (slice_index d.nonbasic column)
     → ((x : ℕ → ℤ) → Satisfies d x → Satisfies new x)
-    → pivots_left (system_of new) < pivots_left (system_of d)
+    → pivots_left (by_variable new) < pivots_left (by_variable d)
 pivot_falls d new is is_new row column l e loaded columns basic solutions =
-    fall (system_of d) (system_of new) (positive_scale d is) (not_end d is row column l e)
+    fall (by_variable d) (by_variable new) (positive_scale d is) (not_end d is row column l e)
     (covers_next d new is is_new row column l e loaded columns basic solutions)
