@@ -3,3 +3,4 @@ pub mod LineLemmas
 pub mod PartLemmas
 pub mod RefillLemmas
 pub mod ToldLemmas
+pub mod SplitLaws

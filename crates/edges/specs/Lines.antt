@@ -1,7 +1,6 @@
 -- What a reader of lines shows, and what one call of `next_line` does to the text that lies ahead.
 use Rattle.std.specs.Prelude.{◌≡◌, ℕ, ◌+◌, ◌<◌, ◌≤◌, List, [], ◌∷◌, ◌++◌, length, take, slice_index, Option, MatchOption}
 use Rattle.std.specs.Io.KnownBytes.{prepend_known}
-use Rattle.edges.specs.Faults.{HasRisen}
 use Rattle.edges.specs.Line.{HasNoLineEnd, line_end}
 use Rattle.edges.specs.Told.{IsAtEnd, Takes}
 use Rattle.edges.specs.declared.line_reader.LineGot.{LineGot}
@@ -69,14 +68,6 @@ Gives Piece new before now = GivesPiece new before now
 Gives End new before now = GivesEnd new before now
 Gives TooLong new before now = GivesTooLong new before now
 Gives ReadFault new before now = GivesFault new before now
-
--- the count of faults rose at a fault, and stayed at every other answer
-abbrev pub CountsFault : LineGot → ℕ → ℕ → Type 0
-CountsFault Line before now = now ≡ before
-CountsFault Piece before now = now ≡ before
-CountsFault End before now = now ≡ before
-CountsFault TooLong before now = now ≡ before
-CountsFault ReadFault before now = HasRisen before now
 
 -- the byte at this place is a line end, the first of the text and not after the longest length
 pub record IsFirstLineEnd (text : List ℕ) (longest place : ℕ) : Type 0 where

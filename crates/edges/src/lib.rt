@@ -6,6 +6,7 @@
 #![tactic(auto)]
 
 mod ends;
+pub mod laws;
 mod line_reader;
 mod memory_ends;
 mod quiet_ends;

@@ -1,8 +1,8 @@
 //! Lines of a source, one at a time and without a copy.
-ghost use Rattle.std.specs.Prelude.{◌≡◌, ℕ, List, Option, ◌+◌, ◌-◌, ◌<◌, ◌≤◌, [], ◌++◌, ◌∷◌, length, take, drop, slice_range, IfOk, OnOk, OnErr, Some, vec_len};
-ghost use Rattle.edges.specs.Faults.{HasRisen};
+ghost use Rattle.std.specs.Prelude.{◌≡◌, ◌≢◌, ℕ, List, Option, ◌+◌, ◌-◌, ◌<◌, ◌≤◌, [], ◌++◌, ◌∷◌, length, take, drop, slice_range, IfOk, OnOk, OnErr, Some, vec_len};
+ghost use Rattle.edges.specs.Faults.{CountsFaults, HasRisen};
 ghost use Rattle.edges.specs.Line.{HasLineEnd, HasNoLineEnd};
-ghost use Rattle.edges.specs.Lines.{CountsFault, Gives, GivesLine, IsFirstLineEnd, IsLineEndWithin, KeepsLimits, ahead, new_lines};
+ghost use Rattle.edges.specs.Lines.{Gives, GivesLine, IsFirstLineEnd, IsLineEndWithin, KeepsLimits, ahead, new_lines};
 ghost use Rattle.edges.specs.Told.{IsAtEnd, Takes};
 
 use crate::NoMemory;
@@ -94,7 +94,7 @@ impl Lines {
         ensures got { Gives result self.new
             (ahead self.old (S.left source.old)) (ahead self.new (S.left source.new)) }
         ensures limits { KeepsLimits self.old self.new }
-        ensures faults { CountsFault result (S.faults source.old) (S.faults source.new) }
+        ensures faults { CountsFaults (result ≡ LineGot.ReadFault) (S.faults source.old) (S.faults source.new) }
 
         // The source is not called where the bytes kept hold a line, or are too many without one.
         ensures line_kept { HasLineEnd (take (self.old.longest + 1) self.old.kept) → source.new ≡ source.old }
@@ -117,7 +117,7 @@ impl Lines {
         ensures got { Gives result self.new
             (ahead self.old (S.left source.old)) (ahead self.new (S.left source.new)) }
         ensures limits { KeepsLimits self.old self.new }
-        ensures faults { CountsFault result (S.faults source.old) (S.faults source.new) }
+        ensures faults { CountsFaults (result ≡ LineGot.ReadFault) (S.faults source.old) (S.faults source.new) }
         ensures too_many_kept { self.old.longest < length self.old.kept → source.new ≡ source.old }
     {
         loop {
@@ -200,7 +200,7 @@ impl Lines {
         requires fits { length self.old.kept ≤ self.old.longest }
         ensures got { (left : Option (List ℕ)) → IsAtEnd left
             → Gives result self.new (ahead self.old left) (ahead self.new left) }
-        ensures no_fault { (faults : ℕ) → CountsFault result faults faults }
+        ensures no_fault { result ≢ LineGot.ReadFault }
         ensures limits { KeepsLimits self.old self.new }
     {
         let rest = self.kept_len();

@@ -1,42 +1,48 @@
--- What a status, and what was written, say of the file.
-use Rattle.std.proofs.Common.{◌≡◌, ℕ, ◌<◌, List, ◌∷◌, ◌++◌, length, take, zero, suc, ap, sym, subst, ◌∙◌, arith, inl, inr, length-append, length-take}
+-- What a status, and what was written, say of the file; and the status of a valid file.
+use Rattle.std.proofs.Common.{◌≡◌, ◌⊎◌, ℕ, ◌<◌, List, ◌∷◌, ◌++◌, length, take, zero, suc, ap, sym, subst, ◌∙◌, arith, inl, inr, length-append, length-take}
 use Rattle.std.specs.Prelude.{Option, Some, None, IfSome}
 use Rattle.std.specs.Io.KnownBytes.{append_known}
 use Rattle.std.proofs.Math.Seq.{take-length}
 use Rattle.std.proofs.lemmas.List.{append_cancel_left}
+use Rattle.edges.specs.Faults.{CountsFaults, HasRisen}
 use Rattle.edges.specs.Told.{Appends}
 use Rattle.result_file.specs.declared.verdicts.Checked.{Checked}
 use Rattle.result_file.specs.declared.verdicts.Checked.TheVariants.{Valid, ValidComplete, Invalid, Unfinished, ReadFault, NoMemory}
-use Rattle.result_file.specs.Checked.{IsToldChecked}
-use Rattle.result_file.specs.Worth.{IsWorth}
-use Rattle.paprika.specs.Command.{SinkState, SourceState, Answers, ChecksFile, IsProved, SaysComplete, IsSettled, Writes, verdict_line}
+use Rattle.result_file.specs.Checked.{IsChecked, IsFileOf, IsToldChecked}
+use Rattle.result_file.specs.Contents.{Content, IsCompleteContent}
+use Rattle.result_file.specs.Laws.{IsOnText}
+use Rattle.result_file.proofs.OneVerdict.{one_verdict_lem}
+use Rattle.result_file.proofs.WorthLaws.{worth}
+use Rattle.paprika.specs.Command.{Answers, ChecksFile, IsSoundFile, IsSettlingFile, IsWorthAnswer, IsValidFile, SaysComplete, Writes, verdict_line}
 
 -- ---- status 0
 
-proved_valid : (told : Option (List ℕ)) → IsToldChecked told Valid → IfSome told (λ text. IsWorth text Valid) → IsProved told
-proved_valid None checked worth = tt
-proved_valid (Some text) checked worth = (checked.0, checked.1, worth checked.0 checked.1)
+sound_valid : (told : Option (List ℕ)) → IsToldChecked told Valid → IsSoundFile told
+sound_valid None checked = tt
+sound_valid (Some text) checked = (checked.0, checked.1, worth text Valid checked checked.0 checked.1)
 
-proved_complete : (told : Option (List ℕ)) → IsToldChecked told ValidComplete → IfSome told (λ text. IsWorth text ValidComplete) → IsProved told
-proved_complete None checked worth = tt
-proved_complete (Some text) checked worth = (checked.0, checked.1, worth.0 checked.0 checked.1)
+sound_complete : (told : Option (List ℕ)) → IsToldChecked told ValidComplete → IsSoundFile told
+sound_complete None checked = tt
+sound_complete (Some text) checked = (checked.0, checked.1, (worth text ValidComplete checked).0 checked.0 checked.1)
 
-proved_by : (verdict : Checked) (told : Option (List ℕ)) (before now : SinkState) (status : ℕ) → IsToldChecked told verdict → IfSome told (λ text. IsWorth text verdict) → Answers verdict before now status → status ≡ 0 → IsProved told
-proved_by Valid told before now status checked worth answered at_zero = proved_valid told checked worth
-proved_by ValidComplete told before now status checked worth answered at_zero = proved_complete told checked worth
-proved_by (Invalid line part) told before now status checked worth answered at_zero = elim answered [ inl done ↦ absurd (omega (arith, done.0)) | inr failed ↦ absurd (omega (arith, failed.0)) ]
-proved_by (Unfinished line) told before now status checked worth answered at_zero = elim answered [ inl done ↦ absurd (omega (arith, done.0)) | inr failed ↦ absurd (omega (arith, failed.0)) ]
-proved_by ReadFault told before now status checked worth answered at_zero = absurd (omega (arith, answered.ends))
-proved_by NoMemory told before now status checked worth answered at_zero = absurd (omega (arith, answered.ends))
+-- a status that is neither that of a refusal nor 4
+not_refused : (line : List ℕ) (before now : Option (List ℕ)) (status : ℕ) → Writes line 1 before now status → status ≡ 0 → ⊥
+not_refused line before now status writes at_zero = elim writes [ inl done ↦ omega (arith, done.0) | inr failed ↦ omega (arith, failed.0) ]
 
-pub proved_at_0 : (source source_now : SourceState) (sink sink_now : SinkState) (status : ℕ) → ChecksFile source source_now sink sink_now status → status ≡ 0 → IsProved source.left
-proved_at_0 source source_now sink sink_now status h at_zero = proved_by h.verdict source.left sink sink_now status h.checked h.worth h.answered at_zero
+sound_by : (verdict : Checked) (told before now : Option (List ℕ)) (status : ℕ) → IsToldChecked told verdict → Answers verdict before now status
+    → status ≡ 0 → IsSoundFile told
+sound_by Valid told before now status checked answered at_zero = sound_valid told checked
+sound_by ValidComplete told before now status checked answered at_zero = sound_complete told checked
+sound_by (Invalid line part) told before now status checked answered at_zero = absurd (not_refused _ before now status answered at_zero)
+sound_by (Unfinished line) told before now status checked answered at_zero = absurd (not_refused _ before now status answered at_zero)
+sound_by ReadFault told before now status checked answered at_zero = absurd (omega (arith, answered.0))
+sound_by NoMemory told before now status checked answered at_zero = absurd (omega (arith, answered.0))
 
 -- ---- the line `valid complete`
 
-settled : (told : Option (List ℕ)) → IsToldChecked told ValidComplete → IfSome told (λ text. IsWorth text ValidComplete) → IsSettled told
-settled None checked worth = tt
-settled (Some text) checked worth = (checked.0, checked.1, worth.1 checked.0 checked.1)
+settling : (told : Option (List ℕ)) → IsToldChecked told ValidComplete → IsSettlingFile told
+settling None checked = tt
+settling (Some text) checked = (checked.0, checked.1, (worth text ValidComplete checked).1 checked.0 checked.1)
 
 -- what was put behind a text
 put_behind : (before now : Option (List ℕ)) (text full line : List ℕ) → before ≡ Some text → now ≡ Some (text ++ full) → Appends before now line → line ≡ full
@@ -47,11 +53,11 @@ put_behind before now text full line was is h =
     append_cancel_left text line full same
 
 -- what was written is some first bytes of a line
-front_written : (before now : SinkState) (line : List ℕ) (wanted status : ℕ) → SaysComplete before now → Writes line wanted before now status → (n : ℕ) × (take n line ≡ verdict_line ValidComplete)
+front_written : (before now : Option (List ℕ)) (line : List ℕ) (wanted status : ℕ) → SaysComplete before now → Writes line wanted before now status → (n : ℕ) × (take n line ≡ verdict_line ValidComplete)
 front_written before now line wanted status says writes =
     elim writes [
-      | inl done ↦ (length line, take-length line ∙ put_behind before.written now.written says.0 (verdict_line ValidComplete) line says.1 says.2 done.1)
-      | inr failed ↦ (failed.1.0, put_behind before.written now.written says.0 (verdict_line ValidComplete) (take failed.1.0 line) says.1 says.2 failed.1.1)
+      | inl done ↦ (length line, take-length line ∙ put_behind before now says.0 (verdict_line ValidComplete) line says.1 says.2 done.1)
+      | inr failed ↦ (failed.1.0, put_behind before now says.0 (verdict_line ValidComplete) (take failed.1.0 line) says.1 says.2 failed.1.1)
     ]
 
 -- the line `valid` is too short
@@ -63,24 +69,60 @@ not_first : (n byte : ℕ) (line : List ℕ) → byte < 118 → take n (byte ∷
 not_first zero byte line small e = cc
 not_first (suc n) byte line small e = let same : byte ≡ 118 = cc in omega arith
 
-nothing_written : (before now : SinkState) → now.written ≡ before.written → SaysComplete before now → ⊥
+nothing_written : (before now : Option (List ℕ)) → now ≡ before → SaysComplete before now → ⊥
 nothing_written before now same says =
     let e : Some says.0 ≡ Some (says.0 ++ verdict_line ValidComplete) = sym says.1 ∙ sym same ∙ says.2 in
     let both : says.0 ≡ says.0 ++ verdict_line ValidComplete = cc in
     omega (arith, ap length both, length-append says.0 (verdict_line ValidComplete))
 
-settled_by : (verdict : Checked) (told : Option (List ℕ)) (before now : SinkState) (status : ℕ) → IsToldChecked told verdict → IfSome told (λ text. IsWorth text verdict) → Answers verdict before now status → SaysComplete before now → IsSettled told
-settled_by Valid told before now status checked worth answered says =
+settling_by : (verdict : Checked) (told before now : Option (List ℕ)) (status : ℕ) → IsToldChecked told verdict → Answers verdict before now status
+    → SaysComplete before now → IsSettlingFile told
+settling_by Valid told before now status checked answered says =
     let f = front_written before now (verdict_line Valid) 0 status says answered in absurd (not_valid f.0 f.1)
-settled_by ValidComplete told before now status checked worth answered says = settled told checked worth
-settled_by (Invalid line part) told before now status checked worth answered says =
+settling_by ValidComplete told before now status checked answered says = settling told checked
+settling_by (Invalid line part) told before now status checked answered says =
     let f = front_written before now (verdict_line (Invalid line part)) 1 status says answered in
     absurd (not_first f.0 105 _ (omega arith) f.1)
-settled_by (Unfinished line) told before now status checked worth answered says =
+settling_by (Unfinished line) told before now status checked answered says =
     let f = front_written before now (verdict_line (Unfinished line)) 1 status says answered in
     absurd (not_first f.0 117 _ (omega arith) f.1)
-settled_by ReadFault told before now status checked worth answered says = absurd (nothing_written before now answered.written says)
-settled_by NoMemory told before now status checked worth answered says = absurd (nothing_written before now answered.written says)
+settling_by ReadFault told before now status checked answered says = absurd (nothing_written before now answered.1 says)
+settling_by NoMemory told before now status checked answered says = absurd (nothing_written before now answered.1 says)
 
-pub settled_at_complete : (source source_now : SourceState) (sink sink_now : SinkState) (status : ℕ) → ChecksFile source source_now sink sink_now status → SaysComplete sink sink_now → IsSettled source.left
-settled_at_complete source source_now sink sink_now status h says = settled_by h.verdict source.left sink sink_now status h.checked h.worth h.answered says
+pub worth_of_answer : (told left before now : Option (List ℕ)) (status : ℕ) → ChecksFile told left before now status → IsWorthAnswer told before now status
+worth_of_answer told left before now status h = record {
+  sound = sound_by h.verdict told before now status h.checked h.answered;
+  settling = settling_by h.verdict told before now status h.checked h.answered;
+}
+
+-- ---- a valid file
+
+-- a valid file deserves no other verdict on its text
+not_other : (text : List ℕ) (content : Content) (verdict : Checked) → IsFileOf content text → IsChecked text verdict → IsOnText verdict
+    → (Valid ≡ verdict → ⊥) → (ValidComplete ≡ verdict → ⊥) → ⊥
+not_other text content verdict file checked on_text not_valid not_complete =
+    let incomplete : IsCompleteContent content → ⊥ =
+    λ complete. not_complete (one_verdict_lem text ValidComplete verdict tt on_text (content, file, complete) checked) in
+    not_valid (one_verdict_lem text Valid verdict tt on_text (content, file, incomplete) checked)
+
+done_or_failed : (line : List ℕ) (before now : Option (List ℕ)) (status : ℕ) → Writes line 0 before now status → (status ≡ 4 → ⊥) → (status ≡ 0) ⊎ (status ≡ 5)
+done_or_failed line before now status writes not_failed = elim writes [ inl done ↦ inl done.0 | inr failed ↦ absurd (not_failed failed.0) ]
+
+done_by : (verdict : Checked) (text : List ℕ) (content : Content) (before now : Option (List ℕ)) (status : ℕ) → IsFileOf content text → IsChecked text verdict
+    → Answers verdict before now status → (status ≡ 3 → ⊥) → (status ≡ 4 → ⊥) → (status ≡ 0) ⊎ (status ≡ 5)
+done_by Valid text content before now status file checked answered no_fault not_failed = done_or_failed (verdict_line Valid) before now status answered not_failed
+done_by ValidComplete text content before now status file checked answered no_fault not_failed =
+    done_or_failed (verdict_line ValidComplete) before now status answered not_failed
+done_by (Invalid line part) text content before now status file checked answered no_fault not_failed =
+    absurd (not_other text content (Invalid line part) file checked tt (λ e. cc) (λ e. cc))
+done_by (Unfinished line) text content before now status file checked answered no_fault not_failed =
+    absurd (not_other text content (Unfinished line) file checked tt (λ e. cc) (λ e. cc))
+done_by ReadFault text content before now status file checked answered no_fault not_failed = absurd (no_fault answered.0)
+done_by NoMemory text content before now status file checked answered no_fault not_failed = inr answered.0
+
+pub done_where_valid : (told left before now : Option (List ℕ)) (status source_faults source_faults_now sink_faults sink_faults_now : ℕ)
+    → ChecksFile told left before now status → CountsFaults (status ≡ 3) source_faults source_faults_now → CountsFaults (status ≡ 4) sink_faults sink_faults_now
+    → IsValidFile told → (HasRisen source_faults source_faults_now → ⊥) → (HasRisen sink_faults sink_faults_now → ⊥) → (status ≡ 0) ⊎ (status ≡ 5)
+done_where_valid told left before now status source_faults source_faults_now sink_faults sink_faults_now h reads writes valid no_read no_write =
+    let checked : IsChecked valid.0 h.verdict = subst (λ (t : Option (List ℕ)). IsToldChecked t h.verdict) valid.2 h.checked in
+    done_by h.verdict valid.0 valid.1 before now status valid.3 checked h.answered (λ e. no_read (reads.rises e)) (λ e. no_write (writes.rises e))

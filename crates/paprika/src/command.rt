@@ -1,6 +1,6 @@
-ghost use Rattle.std.specs.Prelude.{◌≡◌, ◌↔◌, ◌+◌, ◌≤◌, [], ◌++◌, length, codes, IsTrue};
-ghost use Rattle.std.specs.Fmt.{decimal};
-ghost use Rattle.paprika.specs.Command.{IsCheck, usage_line, verdict_line, Writes, Answers, ChecksFile, IsProved, SaysComplete, IsSettled, ShowsUsage};
+ghost use Rattle.std.specs.Prelude.{◌≡◌, ◌≢◌, ◌↔◌, ◌⊎◌, [], IsTrue};
+ghost use Rattle.edges.specs.Faults.{CountsFaults, HasRisen};
+ghost use Rattle.paprika.specs.Command.{IsCheck, verdict_line, Writes, ChecksFile, IsWorthAnswer, IsValidFile, ShowsUsage};
 
 use edges::{Sink, Source, Text};
 use itoa::Buffer;
@@ -33,38 +33,28 @@ pub fn plain_command<S: Source, K: Sink>(
     source: &mut S,
     sink: &mut K,
 ) -> u8
-    ensures check { IsCheck words.now → ChecksFile
-        (record { left = S.left source.old; faults = S.faults source.old })
-        (record { left = S.left source.new; faults = S.faults source.new })
-        (record { written = K.written sink.old; faults = K.faults sink.old })
-        (record { written = K.written sink.new; faults = K.faults sink.new }) result }
-
-    // Status 0 says that each value vector that meets the answers standing at an eliminated pair's line ranks it so.
-    ensures proved { IsCheck words.now → result ≡ 0 → IsProved (S.left source.old) }
-
-    // The line `valid complete` says that each vector that meets the answers ranks every pair that needs a question.
-    ensures complete { IsCheck words.now → SaysComplete
-        (record { written = K.written sink.old; faults = K.faults sink.old })
-        (record { written = K.written sink.new; faults = K.faults sink.new }) → IsSettled (S.left source.old) }
+    ensures check { IsCheck words.now → ChecksFile (S.left source.old) (S.left source.new) (K.written sink.old) (K.written sink.new) result }
+    ensures usage { (¬ IsCheck words.now) → ShowsUsage (K.written sink.old) (K.written sink.new) result }
     ensures unread { (¬ IsCheck words.now) → source.new ≡ source.old }
-    ensures usage { (¬ IsCheck words.now) → ShowsUsage
-        (record { written = K.written sink.old; faults = K.faults sink.old })
-        (record { written = K.written sink.new; faults = K.faults sink.new }) result }
+    ensures read_fault { CountsFaults (result ≡ 3) (S.faults source.old) (S.faults source.new) }
+    ensures write_fault { CountsFaults (result ≡ 4) (K.faults sink.old) (K.faults sink.new) }
+    ensures worth { IsCheck words.now → IsWorthAnswer (S.left source.old) (K.written sink.old) (K.written sink.new) result }
+
+    // A valid file ends with status 0 where no fault came, or with 5 where there was no memory.
+    ensures done { IsCheck words.now → IsValidFile (S.left source.old)
+        → (¬ HasRisen (S.faults source.old) (S.faults source.new)) → (¬ HasRisen (K.faults sink.old) (K.faults sink.new))
+        → (result ≡ 0) ⊎ (result ≡ 5) }
 {
     run(alloc, words, source, sink)
 }
 
 /// Does what the words say, and returns the status.
 fn run<S: Source, K: Sink>(alloc: Global, words: &[String], source: &mut S, sink: &mut K) -> u8
-    ensures check { IsCheck words.now → ChecksFile
-        (record { left = S.left source.old; faults = S.faults source.old })
-        (record { left = S.left source.new; faults = S.faults source.new })
-        (record { written = K.written sink.old; faults = K.faults sink.old })
-        (record { written = K.written sink.new; faults = K.faults sink.new }) result }
+    ensures check { IsCheck words.now → ChecksFile (S.left source.old) (S.left source.new) (K.written sink.old) (K.written sink.new) result }
+    ensures usage { (¬ IsCheck words.now) → ShowsUsage (K.written sink.old) (K.written sink.new) result }
     ensures unread { (¬ IsCheck words.now) → source.new ≡ source.old }
-    ensures usage { (¬ IsCheck words.now) → ShowsUsage
-        (record { written = K.written sink.old; faults = K.faults sink.old })
-        (record { written = K.written sink.new; faults = K.faults sink.new }) result }
+    ensures read_fault { CountsFaults (result ≡ 3) (S.faults source.old) (S.faults source.new) }
+    ensures write_fault { CountsFaults (result ≡ 4) (K.faults sink.old) (K.faults sink.new) }
 {
     let mut text = match Text::reserve(alloc, ROOM) {
         Ok(text) => text,
@@ -121,9 +111,9 @@ fn add_line(text: &mut Text, verdict: Checked)
 
 /// Writes the text, and returns the status or that of a sink that failed.
 fn write<K: Sink>(text: Text, status: u8, sink: &mut K) -> u8
-    ensures { Writes text.bytes status
-        (record { written = K.written sink.old; faults = K.faults sink.old })
-        (record { written = K.written sink.new; faults = K.faults sink.new }) result }
+    requires { status ≢ 4 }
+    ensures written { Writes text.bytes status (K.written sink.old) (K.written sink.new) result }
+    ensures write_fault { CountsFaults (result ≡ 4) (K.faults sink.old) (K.faults sink.new) }
 {
     let mut text = text;
     match text.put_all(sink) {

@@ -24,7 +24,7 @@ use Rattle.result_file.specs.declared.verdicts.Part.TheVariants.{Form}
 use Rattle.result_file.specs.Claims.{Claim, answered, eliminated, answers_of, pair_of}
 use Rattle.result_file.specs.Parts.{part_of}
 use Rattle.result_file.specs.Texts.{most_lines, claim_line, end_line}
-use Rattle.result_file.specs.Reading.{answer_at, elimination_at}
+use Rattle.result_file.specs.Reading.{read_answer, read_elimination}
 use Rattle.result_file.specs.Eliminations.{Reads}
 use Rattle.result_file.specs.Checked.{Fails, begun}
 use Rattle.result_file.specs.Contents.{of_claims}
@@ -103,46 +103,46 @@ elimination_read criteria e h = record {
 
 -- ---- lines
 
-answer_line_takes : (criteria : Criteria) (line : List ℕ) (answer : Answer) → IsModel criteria → answer_at (length criteria.levels) line ≡ Some answer → (line ≡ claim_line (answered answer)) × HasForm criteria (answered answer)
+answer_line_takes : (criteria : Criteria) (line : List ℕ) (answer : Answer) → IsModel criteria → read_answer (length criteria.levels) line ≡ Some answer → (line ≡ claim_line (answered answer)) × HasForm criteria (answered answer)
 answer_line_takes criteria line answer m e =
     let s = is_small criteria m in
     let t = answer_takes (length criteria.levels) line answer s.some s.most e in
     (t.0, pair_form criteria answer.pair t.1)
 
-pub answer_line_again : (criteria : Criteria) (answer : Answer) → IsModel criteria → HasForm criteria (answered answer) → answer_at (length criteria.levels) (claim_line (answered answer)) ≡ Some answer
+pub answer_line_again : (criteria : Criteria) (answer : Answer) → IsModel criteria → HasForm criteria (answered answer) → read_answer (length criteria.levels) (claim_line (answered answer)) ≡ Some answer
 answer_line_again criteria answer m h =
     let s = is_small criteria m in
     answer_again (length criteria.levels) answer s.some s.most (pair_read criteria answer.pair h)
 
-pub elimination_line_takes : (criteria : Criteria) (line : List ℕ) (e : Elimination) → IsModel criteria → elimination_at (length criteria.levels) (increments criteria.levels) line ≡ Some e → AreCites e.combination.answers → (line ≡ claim_line (eliminated e)) × HasForm criteria (eliminated e)
+pub elimination_line_takes : (criteria : Criteria) (line : List ℕ) (e : Elimination) → IsModel criteria → read_elimination (length criteria.levels) (increments criteria.levels) line ≡ Some e → AreCites e.combination.answers → (line ≡ claim_line (eliminated e)) × HasForm criteria (eliminated e)
 elimination_line_takes criteria line e m spelled cites =
     let s = is_small criteria m in
     let t = elimination_takes (length criteria.levels) (increments criteria.levels) line e s.some s.most s.some_increments s.most_increments spelled in
     (t.0, elimination_form criteria e t.1 cites)
 
-pub elimination_line_again : (criteria : Criteria) (e : Elimination) → IsModel criteria → HasForm criteria (eliminated e) → elimination_at (length criteria.levels) (increments criteria.levels) (claim_line (eliminated e)) ≡ Some e
+pub elimination_line_again : (criteria : Criteria) (e : Elimination) → IsModel criteria → HasForm criteria (eliminated e) → read_elimination (length criteria.levels) (increments criteria.levels) (claim_line (eliminated e)) ≡ Some e
 elimination_line_again criteria e m h =
     let s = is_small criteria m in
     elimination_again (length criteria.levels) (increments criteria.levels) e s.some s.most s.some_increments s.most_increments (elimination_read criteria e h)
 
-pub weights_len : (criteria : Criteria) (line : List ℕ) (e : Elimination) → IsModel criteria → elimination_at (length criteria.levels) (increments criteria.levels) line ≡ Some e → length e.combination.increments ≡ increments criteria.levels
+pub weights_len : (criteria : Criteria) (line : List ℕ) (e : Elimination) → IsModel criteria → read_elimination (length criteria.levels) (increments criteria.levels) line ≡ Some e → length e.combination.increments ≡ increments criteria.levels
 weights_len criteria line e m spelled =
     let s = is_small criteria m in
     (elimination_takes (length criteria.levels) (increments criteria.levels) line e s.some s.most s.some_increments s.most_increments spelled).1.combination.weights.len
 
-pub scale_fits : (criteria : Criteria) (line : List ℕ) (e : Elimination) → IsModel criteria → elimination_at (length criteria.levels) (increments criteria.levels) line ≡ Some e → IsCertificate e.combination.scale
+pub scale_fits : (criteria : Criteria) (line : List ℕ) (e : Elimination) → IsModel criteria → read_elimination (length criteria.levels) (increments criteria.levels) line ≡ Some e → IsCertificate e.combination.scale
 scale_fits criteria line e m spelled =
     let s = is_small criteria m in
     (elimination_takes (length criteria.levels) (increments criteria.levels) line e s.some s.most s.some_increments s.most_increments spelled).1.combination.scale
 
 -- ---- one more line
 
-pub no_claim : (criteria : Criteria) (claims : List Claim) (line : List ℕ) → IsModel criteria → answer_at (length criteria.levels) line ≡ None → Reads None (elimination_at (length criteria.levels) (increments criteria.levels) line) → line ≢ end_line → StopsAt (begun (of_claims criteria claims)) line (stops.Wrong Form)
+pub no_claim : (criteria : Criteria) (claims : List Claim) (line : List ℕ) → IsModel criteria → read_answer (length criteria.levels) line ≡ None → Reads None (read_elimination (length criteria.levels) (increments criteria.levels) line) → line ≢ end_line → StopsAt (begun (of_claims criteria claims)) line (stops.Wrong Form)
 no_claim criteria claims line m no_answer no_elimination no_end = (no_end, none)
   where
     none : (claim : Claim) → HasForm criteria claim → line ≢ claim_line claim
     none (answered answer) form spelled =
-        let e : answer_at (length criteria.levels) line ≡ Some answer = rw spelled (answer_line_again criteria answer m form) in
+        let e : read_answer (length criteria.levels) line ≡ Some answer = rw spelled (answer_line_again criteria answer m form) in
         absurd cc
     none (eliminated e) form spelled =
         no_elimination e (rw spelled (elimination_line_again criteria e m form)) form.combination.cites
@@ -163,22 +163,22 @@ adds_claim old new criteria claims line claim form spelled h = record {
   kept = h.kept;
 }
 
-pub adds_answer : (old new : KeptClaims) (line : List ℕ) (answer : Answer) → IsModel old.model → answer_at (length old.model.levels) line ≡ Some answer → (criteria : Criteria) (claims : List Claim) → KeepsClaims old criteria claims → AcceptsClaim new criteria claims (answered answer) → AddsClaim new line criteria claims
+pub adds_answer : (old new : KeptClaims) (line : List ℕ) (answer : Answer) → IsModel old.model → read_answer (length old.model.levels) line ≡ Some answer → (criteria : Criteria) (claims : List Claim) → KeepsClaims old criteria claims → AcceptsClaim new criteria claims (answered answer) → AddsClaim new line criteria claims
 adds_answer old new line answer m e criteria claims keeps h =
     let t = answer_line_takes criteria line answer (rw keeps.model at m) (rw keeps.model at e) in
     adds_claim old new criteria claims line (answered answer) t.1 t.0 h
 
-pub stops_answer : (old : KeptClaims) (line : List ℕ) (answer : Answer) (stop : Stop) → IsModel old.model → answer_at (length old.model.levels) line ≡ Some answer → (criteria : Criteria) (claims : List Claim) → KeepsClaims old criteria claims → Refuses criteria claims (answered answer) stop → StopsAt (begun (of_claims criteria claims)) line stop
+pub stops_answer : (old : KeptClaims) (line : List ℕ) (answer : Answer) (stop : Stop) → IsModel old.model → read_answer (length old.model.levels) line ≡ Some answer → (criteria : Criteria) (claims : List Claim) → KeepsClaims old criteria claims → Refuses criteria claims (answered answer) stop → StopsAt (begun (of_claims criteria claims)) line stop
 stops_answer old line answer stop m e criteria claims keeps h =
     let t = answer_line_takes criteria line answer (rw keeps.model at m) (rw keeps.model at e) in
     stops_claim stop criteria claims line (answered answer) t.1 t.0 h
 
-pub adds_elimination : (old new : KeptClaims) (line : List ℕ) (e : Elimination) → IsModel old.model → elimination_at (length old.model.levels) (increments old.model.levels) line ≡ Some e → AreCites e.combination.answers → (criteria : Criteria) (claims : List Claim) → KeepsClaims old criteria claims → AcceptsClaim new criteria claims (eliminated e) → AddsClaim new line criteria claims
+pub adds_elimination : (old new : KeptClaims) (line : List ℕ) (e : Elimination) → IsModel old.model → read_elimination (length old.model.levels) (increments old.model.levels) line ≡ Some e → AreCites e.combination.answers → (criteria : Criteria) (claims : List Claim) → KeepsClaims old criteria claims → AcceptsClaim new criteria claims (eliminated e) → AddsClaim new line criteria claims
 adds_elimination old new line e m spelled cites criteria claims keeps h =
     let t = elimination_line_takes criteria line e (rw keeps.model at m) (rw keeps.model at spelled) cites in
     adds_claim old new criteria claims line (eliminated e) t.1 t.0 h
 
-pub stops_elimination : (old : KeptClaims) (line : List ℕ) (e : Elimination) (stop : Stop) → IsModel old.model → elimination_at (length old.model.levels) (increments old.model.levels) line ≡ Some e → AreCites e.combination.answers → (criteria : Criteria) (claims : List Claim) → KeepsClaims old criteria claims → Refuses criteria claims (eliminated e) stop → StopsAt (begun (of_claims criteria claims)) line stop
+pub stops_elimination : (old : KeptClaims) (line : List ℕ) (e : Elimination) (stop : Stop) → IsModel old.model → read_elimination (length old.model.levels) (increments old.model.levels) line ≡ Some e → AreCites e.combination.answers → (criteria : Criteria) (claims : List Claim) → KeepsClaims old criteria claims → Refuses criteria claims (eliminated e) stop → StopsAt (begun (of_claims criteria claims)) line stop
 stops_elimination old line e stop m spelled cites criteria claims keeps h =
     let t = elimination_line_takes criteria line e (rw keeps.model at m) (rw keeps.model at spelled) cites in
     stops_claim stop criteria claims line (eliminated e) t.1 t.0 h
@@ -250,6 +250,6 @@ pub if_err_weaker : {T E : Type 0} (r : Result T E) (P Q : E → Type 0) → ((e
 if_err_weaker (Ok x) P Q f h = tt
 if_err_weaker (Err e) P Q f h = f e h
 
-pub no_claim_kept : (kept : KeptClaims) (line : List ℕ) → IsModel kept.model → answer_at (length kept.model.levels) line ≡ None → Reads None (elimination_at (length kept.model.levels) (increments kept.model.levels) line) → (criteria : Criteria) (claims : List Claim) → line ≢ end_line → KeepsClaims kept criteria claims → StopsAt (begun (of_claims criteria claims)) line (stops.Wrong Form)
+pub no_claim_kept : (kept : KeptClaims) (line : List ℕ) → IsModel kept.model → read_answer (length kept.model.levels) line ≡ None → Reads None (read_elimination (length kept.model.levels) (increments kept.model.levels) line) → (criteria : Criteria) (claims : List Claim) → line ≢ end_line → KeepsClaims kept criteria claims → StopsAt (begun (of_claims criteria claims)) line (stops.Wrong Form)
 no_claim_kept kept line m no_answer no_elimination criteria claims no_end keeps =
     no_claim criteria claims line (rw keeps.model at m) (rw keeps.model at no_answer) (rw keeps.model at no_elimination) no_end

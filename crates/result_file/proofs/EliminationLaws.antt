@@ -6,7 +6,7 @@ use Rattle.std.proofs.lemmas.Fmt.{decimal_digit, decimal_nonempty, first_decimal
 use Rattle.std.proofs.lemmas.Bool.Decides.{nat_tests}
 use Rattle.std.proofs.lemmas.List.Elements.{All-nil}
 use Rattle.text_fields.specs.Spelling.{EndsNumber, IsCertificate, IsList, listed, is_next}
-use Rattle.text_fields.specs.Reading.{word_at, number_at, certificate_at, list_at}
+use Rattle.text_fields.specs.Reading.{read_word, read_number, read_certificate, read_list}
 use Rattle.text_fields.specs.Laws.{IsField}
 use Rattle.text_fields.proofs.NumberLaws.{numbers_field, certificates_field, bind_some, some_is}
 use Rattle.text_fields.proofs.ListLaws.{list_field}
@@ -16,7 +16,7 @@ use Rattle.farkas_check.specs.declared.cites.Cite.{Cite}
 use Rattle.farkas_check.specs.declared.combination.Combination.{Combination}
 use Rattle.result_file.specs.declared.eliminations.Elimination.{Elimination}
 use Rattle.result_file.specs.Texts.{ranking_text, cite_text, cites_text, combination_text, elimination_line}
-use Rattle.result_file.specs.Reading.{ranking_at, weights_at, cite_at, cites_at, combination_at, elimination_at}
+use Rattle.result_file.specs.Reading.{read_ranking, read_weights, read_cite, read_cites, read_combination, read_elimination}
 use Rattle.result_file.proofs.LineLaws.{IsExactly, IsPair, EndsSide, exactly_field, ranking_field, at_end_some, regroup3, regroup4, regroup5, regroup6, joined3, joined5, joined6}
 
 -- ---- cites
@@ -26,13 +26,13 @@ pub record IsReadCite (cite : Cite) : Type 0 where
   pub number : cite.answer ≤ 131072
   pub weight : IsCertificate cite.weight
 
-pub cite_field : IsField cite_at cite_text IsReadCite EndsNumber
-unfolding cite_at
+pub cite_field : IsField read_cite cite_text IsReadCite EndsNumber
+unfolding read_cite
 cite_field = record {
   takes = λ text cite rest e.
-      let a = bind_some (number_at 131072 text) _ (cite, rest) e in
-      let c = bind_some (word_at (codes ":") a.0.1) _ (cite, rest) a.2 in
-      let w = bind_some (certificate_at c.0.1) _ (cite, rest) c.2 in
+      let a = bind_some (read_number 131072 text) _ (cite, rest) e in
+      let c = bind_some (read_word (codes ":") a.0.1) _ (cite, rest) a.2 in
+      let w = bind_some (read_certificate c.0.1) _ (cite, rest) c.2 in
       let answer = (numbers_field 131072 (lit< tt)).takes text a.0.0 a.0.1 a.1 in
       let colon = (word_field (codes ":")).takes a.0.1 c.0.0 c.0.1 c.1 in
       let weight = certificates_field.takes c.0.1 w.0.0 w.0.1 w.1 in
@@ -41,7 +41,7 @@ cite_field = record {
   again = λ cite rest h ends.
       let answer = (numbers_field 131072 (lit< tt)).again cite.answer (codes ":" ++ (signed_decimal cite.weight ++ rest)) h.number refl in
       let weight = certificates_field.again cite.weight rest h.weight ends in
-      ap cite_at (sym (regroup3 (decimal cite.answer) (codes ":") (signed_decimal cite.weight) rest)) ∙ rw (answer, weight) refl;
+      ap read_cite (sym (regroup3 (decimal cite.answer) (codes ":") (signed_decimal cite.weight) rest)) ∙ rw (answer, weight) refl;
 }
 
 -- a list of cites as it is read
@@ -75,31 +75,31 @@ some_cites : (cites : List Cite) → 1 ≤ length cites → cites_text cites ≡
 some_cites [] some = absurd (omega arith)
 some_cites (cite ∷ cites) some = refl
 
-cite_lists : IsField (list_at cite_at 24) (listed cite_text) (IsList IsReadCite 24) EndsSide
-cite_lists = list_field cite_at cite_text IsReadCite EndsNumber cite_field (λ _. refl) 24
+cite_lists : IsField (read_list read_cite 24) (listed cite_text) (IsList IsReadCite 24) EndsSide
+cite_lists = list_field read_cite cite_text IsReadCite EndsNumber cite_field (λ _. refl) 24
 
 AreCitesAt : List ℕ → List Cite × List ℕ → Type 0
 AreCitesAt text found = (text ≡ cites_text found.0 ++ found.1) × AreReadCites found.0
 
-cites_takes : (text : List ℕ) (found : List Cite × List ℕ) → cites_at text ≡ Some found → AreCitesAt text found
-unfolding cites_at AreCitesAt
+cites_takes : (text : List ℕ) (found : List Cite × List ℕ) → read_cites text ≡ Some found → AreCitesAt text found
+unfolding read_cites AreCitesAt
 cites_takes text found e =
-    elim (is_next 45 text) as (λ v. is_next 45 text ≡ v → cond v (Some ([], drop 1 text)) (list_at cite_at 24 text) ≡ Some found → AreCitesAt text found) [
+    elim (is_next 45 text) as (λ v. is_next 45 text ≡ v → cond v (Some ([], drop 1 text)) (read_list read_cite 24 text) ≡ Some found → AreCitesAt text found) [
       | true ↦ λ minus e'. subst (AreCitesAt text) (some_is _ _ e') (starts_minus text minus, record { most = omega arith; each = All-nil IsReadCite })
       | false ↦ λ _ e'.
           let t = cite_lists.takes text found.0 found.1 e' in
           (t.0 ∙ ap (λ (front : List ℕ). front ++ found.1) (sym (some_cites found.0 t.1.some)), record { most = t.1.most; each = t.1.each })
     ] refl e
 
-cites_again : (cites : List Cite) (rest : List ℕ) → AreReadCites cites → EndsSide rest → cites_at (cites_text cites ++ rest) ≡ Some (cites, rest)
-unfolding cites_at
+cites_again : (cites : List Cite) (rest : List ℕ) → AreReadCites cites → EndsSide rest → read_cites (cites_text cites ++ rest) ≡ Some (cites, rest)
+unfolding read_cites
 cites_again [] rest h ends = refl
 cites_again (cite ∷ cites) rest h ends =
     let none = no_minus cite cites rest (h.each 0 cite (omega arith)) in
     let again = cite_lists.again (cite ∷ cites) rest (record { some = omega arith; most = h.most; each = h.each }) ends in
     rw none again
 
-pub cites_field : IsField cites_at cites_text AreReadCites EndsSide
+pub cites_field : IsField read_cites cites_text AreReadCites EndsSide
 unfolding AreCitesAt
 cites_field = record {
   takes = λ text cites rest e. cites_takes text (cites, rest) e;
@@ -114,19 +114,19 @@ pub record IsReadCombination (increments : ℕ) (combination : Combination) : Ty
   pub weights : IsExactly IsCertificate increments combination.increments
   pub cites : AreReadCites combination.answers
 
-pub weights_field : (increments : ℕ) → 1 ≤ increments → increments ≤ 24 → IsField (weights_at increments) (listed signed_decimal) (IsExactly IsCertificate increments) EndsSide
-unfolding weights_at
-weights_field increments low high = exactly_field certificate_at signed_decimal IsCertificate certificates_field increments low high
+pub weights_field : (increments : ℕ) → 1 ≤ increments → increments ≤ 24 → IsField (read_weights increments) (listed signed_decimal) (IsExactly IsCertificate increments) EndsSide
+unfolding read_weights
+weights_field increments low high = exactly_field read_certificate signed_decimal IsCertificate certificates_field increments low high
 
-combination_field : (increments : ℕ) → 1 ≤ increments → increments ≤ 24 → IsField (combination_at increments) combination_text (IsReadCombination increments) EndsSide
-unfolding combination_at
+combination_field : (increments : ℕ) → 1 ≤ increments → increments ≤ 24 → IsField (read_combination increments) combination_text (IsReadCombination increments) EndsSide
+unfolding read_combination
 combination_field increments low high = record {
   takes = λ text combination rest e.
-      let s = bind_some (certificate_at text) _ (combination, rest) e in
-      let b = bind_some (word_at (codes " ") s.0.1) _ (combination, rest) s.2 in
-      let w = bind_some (weights_at increments b.0.1) _ (combination, rest) b.2 in
-      let b' = bind_some (word_at (codes " ") w.0.1) _ (combination, rest) w.2 in
-      let c = bind_some (cites_at b'.0.1) _ (combination, rest) b'.2 in
+      let s = bind_some (read_certificate text) _ (combination, rest) e in
+      let b = bind_some (read_word (codes " ") s.0.1) _ (combination, rest) s.2 in
+      let w = bind_some (read_weights increments b.0.1) _ (combination, rest) b.2 in
+      let b' = bind_some (read_word (codes " ") w.0.1) _ (combination, rest) w.2 in
+      let c = bind_some (read_cites b'.0.1) _ (combination, rest) b'.2 in
       let scale = certificates_field.takes text s.0.0 s.0.1 s.1 in
       let blank = (word_field (codes " ")).takes s.0.1 b.0.0 b.0.1 b.1 in
       let weights = (weights_field increments low high).takes b.0.1 w.0.0 w.0.1 w.1 in
@@ -140,7 +140,7 @@ combination_field increments low high = record {
       let scale = certificates_field.again combination.scale (codes " " ++ (listed signed_decimal combination.increments ++ (codes " " ++ (cites_text combination.answers ++ rest)))) h.scale refl in
       let weights = (weights_field increments low high).again combination.increments (codes " " ++ (cites_text combination.answers ++ rest)) h.weights (refl, refl) in
       let cites = cites_field.again combination.answers rest h.cites ends in
-      ap (combination_at increments) (sym (regroup5 (signed_decimal combination.scale) (codes " ") (listed signed_decimal combination.increments) (codes " ") (cites_text combination.answers) rest)) ∙ rw (scale, weights, cites) refl;
+      ap (read_combination increments) (sym (regroup5 (signed_decimal combination.scale) (codes " ") (listed signed_decimal combination.increments) (codes " ") (cites_text combination.answers) rest)) ∙ rw (scale, weights, cites) refl;
 }
 
 -- ---- eliminate lines
@@ -154,15 +154,15 @@ pub record IsReadElimination (criteria increments : ℕ) (elimination : Eliminat
 abbrev ranking_of : Elimination → Answer
 ranking_of elimination = record { pair = elimination.pair; side = elimination.verdict }
 
-pub elimination_takes : (criteria increments : ℕ) (line : List ℕ) (elimination : Elimination) → 1 ≤ criteria → criteria ≤ 24 → 1 ≤ increments → increments ≤ 24 → elimination_at criteria increments line ≡ Some elimination → (line ≡ elimination_line elimination) × IsReadElimination criteria increments elimination
-unfolding elimination_at
+pub elimination_takes : (criteria increments : ℕ) (line : List ℕ) (elimination : Elimination) → 1 ≤ criteria → criteria ≤ 24 → 1 ≤ increments → increments ≤ 24 → read_elimination criteria increments line ≡ Some elimination → (line ≡ elimination_line elimination) × IsReadElimination criteria increments elimination
+unfolding read_elimination
 elimination_takes criteria increments line elimination low high low' high' e =
-    let w = bind_some (word_at (codes "eliminate ") line) _ elimination e in
-    let n = bind_some (number_at 16 w.0.1) _ elimination w.2 in
-    let b = bind_some (word_at (codes " ") n.0.1) _ elimination n.2 in
-    let r = bind_some (ranking_at criteria b.0.1) _ elimination b.2 in
-    let b' = bind_some (word_at (codes " ") r.0.1) _ elimination r.2 in
-    let c = bind_some (combination_at increments b'.0.1) _ elimination b'.2 in
+    let w = bind_some (read_word (codes "eliminate ") line) _ elimination e in
+    let n = bind_some (read_number 16 w.0.1) _ elimination w.2 in
+    let b = bind_some (read_word (codes " ") n.0.1) _ elimination n.2 in
+    let r = bind_some (read_ranking criteria b.0.1) _ elimination b.2 in
+    let b' = bind_some (read_word (codes " ") r.0.1) _ elimination r.2 in
+    let c = bind_some (read_combination increments b'.0.1) _ elimination b'.2 in
     let found : Elimination = record { worker = n.0.0; pair = r.0.0.pair; verdict = r.0.0.side; combination = c.0.0 } in
     let end = at_end_some found elimination c.0.1 c.2 in
     let word = (word_field (codes "eliminate ")).takes line w.0.0 w.0.1 w.1 in
@@ -176,10 +176,10 @@ elimination_takes criteria increments line elimination low high low' high' e =
     subst (λ (x : Elimination). (line ≡ elimination_line x) × IsReadElimination criteria increments x) end.1
     (line_is, record { worker = worker.1; pair = ranking.1; combination = combination.1 })
 
-pub elimination_again : (criteria increments : ℕ) (elimination : Elimination) → 1 ≤ criteria → criteria ≤ 24 → 1 ≤ increments → increments ≤ 24 → IsReadElimination criteria increments elimination → elimination_at criteria increments (elimination_line elimination) ≡ Some elimination
-unfolding elimination_at
+pub elimination_again : (criteria increments : ℕ) (elimination : Elimination) → 1 ≤ criteria → criteria ≤ 24 → 1 ≤ increments → increments ≤ 24 → IsReadElimination criteria increments elimination → read_elimination criteria increments (elimination_line elimination) ≡ Some elimination
+unfolding read_elimination
 elimination_again criteria increments elimination low high low' high' h =
     let worker = (numbers_field 16 (lit< tt)).again elimination.worker (codes " " ++ (ranking_text (ranking_of elimination) ++ (codes " " ++ (combination_text elimination.combination ++ [])))) h.worker refl in
     let ranking = (ranking_field criteria low high).again (ranking_of elimination) (codes " " ++ (combination_text elimination.combination ++ [])) h.pair tt in
     let combination = (combination_field increments low' high').again elimination.combination [] h.combination (tt, refl) in
-    ap (elimination_at criteria increments) (sym (append-nil (elimination_line elimination)) ∙ sym (regroup6 (codes "eliminate ") (decimal elimination.worker) (codes " ") (ranking_text (ranking_of elimination)) (codes " ") (combination_text elimination.combination) [])) ∙ rw (worker, ranking, combination) refl
+    ap (read_elimination criteria increments) (sym (append-nil (elimination_line elimination)) ∙ sym (regroup6 (codes "eliminate ") (decimal elimination.worker) (codes " ") (ranking_text (ranking_of elimination)) (codes " ") (combination_text elimination.combination) [])) ∙ rw (worker, ranking, combination) refl

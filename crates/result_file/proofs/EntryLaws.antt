@@ -7,7 +7,7 @@ use Rattle.std.proofs.lemmas.Option.{cond_some}
 use Rattle.std.proofs.lemmas.Int.{ints}
 use Rattle.std.proofs.lemmas.List.Sums.{AllPass-from_list_all, list_all-from_AllPass}
 use Rattle.text_fields.specs.Spelling.{EndsNumber, IsCertificate, listed}
-use Rattle.text_fields.specs.Reading.{word_at, number_at}
+use Rattle.text_fields.specs.Reading.{read_word, read_number}
 use Rattle.text_fields.specs.Laws.{IsField}
 use Rattle.text_fields.proofs.NumberLaws.{numbers_field, bind_some, some_is}
 use Rattle.text_fields.proofs.WordLaws.{word_field}
@@ -25,7 +25,7 @@ use Rattle.result_file.specs.Forms.{HasPairForm}
 use Rattle.result_file.specs.Entries.{HasDeskForm, HasNumberForm, HasVectorForm, HasEntryForm, ReadsEntry}
 use Rattle.result_file.specs.Eliminations.{Reads}
 use Rattle.result_file.specs.Texts.{end_line, pair_text, side_text, vector_text, vectors_text, numbers_text, issue_line, commit_line, close_line, withdraw_line, entry_line}
-use Rattle.result_file.specs.Reading.{pair_at, side_at, weights_at, elimination_at, passing, counted_at, desk_at, numbers_at, vector_at, vectors_at, issue_at, commit_at, close_at, withdraw_at, withdrawal_in, step_at}
+use Rattle.result_file.specs.Reading.{read_pair, read_side, read_weights, read_elimination, passing, read_counted, read_desk, read_numbers, read_vector, read_vectors, read_issue, read_commit, read_close, read_withdraw, withdrawal_in, read_step}
 use Rattle.result_file.proofs.LineLaws.{IsExactly, EndsSide, pair_field, side_field, or_else_some, at_end_some, regroup3, regroup6, joined2, joined3, joined6}
 use Rattle.result_file.proofs.EliminationLaws.{weights_field}
 use Rattle.result_file.proofs.ClaimLaws.{is_small, pair_form, pair_read, elimination_line_takes, elimination_line_again}
@@ -43,29 +43,29 @@ passing_field {X} item spell P Ends field test = record {
 }
 
 -- a number from 1 on
-counted_field : (most : ℕ) → most < 10 ^ 64 → IsField (counted_at most) decimal (λ n. (1 ≤ n) × (n ≤ most)) EndsNumber
+counted_field : (most : ℕ) → most < 10 ^ 64 → IsField (read_counted most) decimal (λ n. (1 ≤ n) × (n ≤ most)) EndsNumber
 counted_field most wide =
-    let field = passing_field (number_at most) decimal (λ n. n ≤ most) EndsNumber (numbers_field most wide) (nat_le 1) in
+    let field = passing_field (read_number most) decimal (λ n. n ≤ most) EndsNumber (numbers_field most wide) (nat_le 1) in
     record {
       takes = λ text n rest e. let t = field.takes text n rest e in (t.0, (leb-true 1 n t.1.1, t.1.0));
       again = λ n rest h ends. field.again n rest (h.1, le-leb 1 n h.0) ends;
     }
 
-desk_field : IsField desk_at decimal HasDeskForm EndsNumber
-unfolding desk_at
+desk_field : IsField read_desk decimal HasDeskForm EndsNumber
+unfolding read_desk
 desk_field = counted_field 4 (lit< tt)
 
-number_field : IsField (counted_at 131072) decimal HasNumberForm EndsNumber
+number_field : IsField (read_counted 131072) decimal HasNumberForm EndsNumber
 number_field = counted_field 131072 (lit< tt)
 
 -- a desk and a number
-desk_number_field : IsField numbers_at (λ found. numbers_text found.0 found.1) (λ found. HasDeskForm found.0 × HasNumberForm found.1) EndsNumber
-unfolding numbers_at
+desk_number_field : IsField read_numbers (λ found. numbers_text found.0 found.1) (λ found. HasDeskForm found.0 × HasNumberForm found.1) EndsNumber
+unfolding read_numbers
 desk_number_field = record {
   takes = λ text found rest e.
-      let d = bind_some (desk_at text) _ (found, rest) e in
-      let b = bind_some (word_at (codes " ") d.0.1) _ (found, rest) d.2 in
-      let n = bind_some (counted_at 131072 b.0.1) _ (found, rest) b.2 in
+      let d = bind_some (read_desk text) _ (found, rest) e in
+      let b = bind_some (read_word (codes " ") d.0.1) _ (found, rest) d.2 in
+      let n = bind_some (read_counted 131072 b.0.1) _ (found, rest) b.2 in
       let desk = desk_field.takes text d.0.0 d.0.1 d.1 in
       let blank = (word_field (codes " ")).takes d.0.1 b.0.0 b.0.1 b.1 in
       let number = number_field.takes b.0.1 n.0.0 n.0.1 n.1 in
@@ -74,7 +74,7 @@ desk_number_field = record {
   again = λ found rest h ends.
       let desk = desk_field.again found.0 (codes " " ++ (decimal found.1 ++ rest)) h.0 refl in
       let number = number_field.again found.1 rest h.1 ends in
-      ap numbers_at (sym (regroup3 (decimal found.0) (codes " ") (decimal found.1) rest)) ∙ rw (desk, number) refl;
+      ap read_numbers (sym (regroup3 (decimal found.0) (codes " ") (decimal found.1) rest)) ∙ rw (desk, number) refl;
 }
 
 -- ---- vectors
@@ -87,13 +87,13 @@ tests_from_one : (z : ℤ) → pos 1 ≤ℤ z → int_le (pos 1) z ≡ true
 tests_from_one (pos n) h = le-leb 1 n (omega (arith, ints, h))
 tests_from_one (negsuc n) h = absurd (omega (arith, ints, h))
 
-vector_field : (criteria : Criteria) → IsModel criteria → IsField (vector_at (increments criteria.levels)) vector_text (HasVectorForm criteria) EndsSide
-unfolding vector_at
+vector_field : (criteria : Criteria) → IsModel criteria → IsField (read_vector (increments criteria.levels)) vector_text (HasVectorForm criteria) EndsSide
+unfolding read_vector
 vector_field criteria m =
     let count : ℕ = increments criteria.levels in
     let s = is_small criteria m in
     let weights = weights_field count s.some_increments s.most_increments in
-    let field = passing_field (weights_at count) (listed signed_decimal) (IsExactly IsCertificate count) EndsSide weights (list_all (int_le (pos 1))) in
+    let field = passing_field (read_weights count) (listed signed_decimal) (IsExactly IsCertificate count) EndsSide weights (list_all (int_le (pos 1))) in
     record {
       takes = λ text vector rest e.
           let t = field.takes text vector rest e in
@@ -110,14 +110,14 @@ vector_field criteria m =
     }
 
 -- the two vectors that open a pair
-vectors_field : (criteria : Criteria) → IsModel criteria → IsField (vectors_at (increments criteria.levels)) (λ found. vectors_text found.0 found.1) (λ found. HasVectorForm criteria found.0 × HasVectorForm criteria found.1) EndsSide
-unfolding vectors_at
+vectors_field : (criteria : Criteria) → IsModel criteria → IsField (read_vectors (increments criteria.levels)) (λ found. vectors_text found.0 found.1) (λ found. HasVectorForm criteria found.0 × HasVectorForm criteria found.1) EndsSide
+unfolding read_vectors
 vectors_field criteria m = record {
   takes = λ text found rest e.
       let vector = vector_field criteria m in
-      let p = bind_some (vector_at (increments criteria.levels) text) _ (found, rest) e in
-      let b = bind_some (word_at (codes " ") p.0.1) _ (found, rest) p.2 in
-      let q = bind_some (vector_at (increments criteria.levels) b.0.1) _ (found, rest) b.2 in
+      let p = bind_some (read_vector (increments criteria.levels) text) _ (found, rest) e in
+      let b = bind_some (read_word (codes " ") p.0.1) _ (found, rest) p.2 in
+      let q = bind_some (read_vector (increments criteria.levels) b.0.1) _ (found, rest) b.2 in
       let plus = vector.takes text p.0.0 p.0.1 p.1 in
       let blank = (word_field (codes " ")).takes p.0.1 b.0.0 b.0.1 b.1 in
       let minus = vector.takes b.0.1 q.0.0 q.0.1 q.1 in
@@ -127,7 +127,7 @@ vectors_field criteria m = record {
       let vector = vector_field criteria m in
       let plus = vector.again found.0 (codes " " ++ (vector_text found.1 ++ rest)) h.0 (refl, refl) in
       let minus = vector.again found.1 rest h.1 ends in
-      ap (vectors_at (increments criteria.levels)) (sym (regroup3 (vector_text found.0) (codes " ") (vector_text found.1) rest)) ∙ rw (plus, minus) refl;
+      ap (read_vectors (increments criteria.levels)) (sym (regroup3 (vector_text found.0) (codes " ") (vector_text found.1) rest)) ∙ rw (plus, minus) refl;
 }
 
 -- ---- lines
@@ -136,16 +136,16 @@ vectors_field criteria m = record {
 abbrev Spells : Format → Criteria → List ℕ → Entry → Type 0
 Spells format criteria line entry = (line ≡ entry_line entry) × HasEntryForm format criteria entry
 
-issue_takes : (format : Format) (criteria : Criteria) (line : List ℕ) (entry : Entry) → IsModel criteria → issue_at (length criteria.levels) (increments criteria.levels) line ≡ Some entry → Spells format criteria line entry
-unfolding issue_at
+issue_takes : (format : Format) (criteria : Criteria) (line : List ℕ) (entry : Entry) → IsModel criteria → read_issue (length criteria.levels) (increments criteria.levels) line ≡ Some entry → Spells format criteria line entry
+unfolding read_issue
 issue_takes format criteria line entry m e =
     let s = is_small criteria m in
-    let w = bind_some (word_at (codes "issue ") line) _ entry e in
-    let d = bind_some (desk_at w.0.1) _ entry w.2 in
-    let b = bind_some (word_at (codes " ") d.0.1) _ entry d.2 in
-    let p = bind_some (pair_at (length criteria.levels) b.0.1) _ entry b.2 in
-    let b' = bind_some (word_at (codes " ") p.0.1) _ entry p.2 in
-    let v = bind_some (vectors_at (increments criteria.levels) b'.0.1) _ entry b'.2 in
+    let w = bind_some (read_word (codes "issue ") line) _ entry e in
+    let d = bind_some (read_desk w.0.1) _ entry w.2 in
+    let b = bind_some (read_word (codes " ") d.0.1) _ entry d.2 in
+    let p = bind_some (read_pair (length criteria.levels) b.0.1) _ entry b.2 in
+    let b' = bind_some (read_word (codes " ") p.0.1) _ entry p.2 in
+    let v = bind_some (read_vectors (increments criteria.levels) b'.0.1) _ entry b'.2 in
     let found : Entry = Issue d.0.0 p.0.0 v.0.0.0 v.0.0.1 in
     let end = at_end_some found entry v.0.1 v.2 in
     let word = (word_field (codes "issue ")).takes line w.0.0 w.0.1 w.1 in
@@ -158,31 +158,31 @@ issue_takes format criteria line entry m e =
     let line_is : line ≡ entry_line found = whole ∙ rw end.0 (append-nil _) in
     subst (Spells format criteria line) end.1 (line_is, (desk.1, pair_form criteria p.0.0 pair.1, vectors.1.0, vectors.1.1))
 
-issue_again : (criteria : Criteria) (desk : ℕ) (pair : Pair) (plus minus : List ℤ) → IsModel criteria → HasDeskForm desk → HasPairForm criteria pair → HasVectorForm criteria plus → HasVectorForm criteria minus → issue_at (length criteria.levels) (increments criteria.levels) (issue_line desk pair plus minus) ≡ Some (Issue desk pair plus minus)
-unfolding issue_at
+issue_again : (criteria : Criteria) (desk : ℕ) (pair : Pair) (plus minus : List ℤ) → IsModel criteria → HasDeskForm desk → HasPairForm criteria pair → HasVectorForm criteria plus → HasVectorForm criteria minus → read_issue (length criteria.levels) (increments criteria.levels) (issue_line desk pair plus minus) ≡ Some (Issue desk pair plus minus)
+unfolding read_issue
 issue_again criteria desk pair plus minus m desk_form pair_has plus_form minus_form =
     let s = is_small criteria m in
     let tail : List ℕ = codes " " ++ (vectors_text plus minus ++ []) in
     let d = desk_field.again desk (codes " " ++ (pair_text pair ++ tail)) desk_form refl in
     let p = (pair_field (length criteria.levels) s.some s.most).again pair tail (pair_read criteria pair pair_has) (refl, refl) in
     let v = (vectors_field criteria m).again (plus, minus) [] (plus_form, minus_form) (tt, refl) in
-    ap (issue_at (length criteria.levels) (increments criteria.levels)) (sym (append-nil (issue_line desk pair plus minus)) ∙ sym (regroup6 (codes "issue ") (decimal desk) (codes " ") (pair_text pair) (codes " ") (vectors_text plus minus) [])) ∙ rw (d, p, v) refl
+    ap (read_issue (length criteria.levels) (increments criteria.levels)) (sym (append-nil (issue_line desk pair plus minus)) ∙ sym (regroup6 (codes "issue ") (decimal desk) (codes " ") (pair_text pair) (codes " ") (vectors_text plus minus) [])) ∙ rw (d, p, v) refl
 
 regroup8 : {X : Type 0} (a b c d e f g h t : List X) → a ++ (b ++ (c ++ (d ++ (e ++ (f ++ (g ++ (h ++ t))))))) ≡ (((((((a ++ b) ++ c) ++ d) ++ e) ++ f) ++ g) ++ h) ++ t
 regroup8 a b c d e f g h t = regroup6 a b c d e f (g ++ (h ++ t)) ∙ regroup3 (((((a ++ b) ++ c) ++ d) ++ e) ++ f) g h t
 
-commit_takes : (format : Format) (criteria : Criteria) (line : List ℕ) (entry : Entry) → IsModel criteria → commit_at (increments criteria.levels) line ≡ Some entry → Spells format criteria line entry
-unfolding commit_at
+commit_takes : (format : Format) (criteria : Criteria) (line : List ℕ) (entry : Entry) → IsModel criteria → read_commit (increments criteria.levels) line ≡ Some entry → Spells format criteria line entry
+unfolding read_commit
 commit_takes format criteria line entry m e =
     let count : ℕ = increments criteria.levels in
-    let w = bind_some (word_at (codes "commit ") line) _ entry e in
-    let n = bind_some (numbers_at w.0.1) _ entry w.2 in
-    let b = bind_some (word_at (codes " ") n.0.1) _ entry n.2 in
-    let s = bind_some (side_at b.0.1) _ entry b.2 in
-    let b' = bind_some (word_at (codes " ") s.0.1) _ entry s.2 in
-    let v = bind_some (vectors_at count b'.0.1) _ entry b'.2 in
-    let b'' = bind_some (word_at (codes " ") v.0.1) _ entry v.2 in
-    let p = bind_some (vector_at count b''.0.1) _ entry b''.2 in
+    let w = bind_some (read_word (codes "commit ") line) _ entry e in
+    let n = bind_some (read_numbers w.0.1) _ entry w.2 in
+    let b = bind_some (read_word (codes " ") n.0.1) _ entry n.2 in
+    let s = bind_some (read_side b.0.1) _ entry b.2 in
+    let b' = bind_some (read_word (codes " ") s.0.1) _ entry s.2 in
+    let v = bind_some (read_vectors count b'.0.1) _ entry b'.2 in
+    let b'' = bind_some (read_word (codes " ") v.0.1) _ entry v.2 in
+    let p = bind_some (read_vector count b''.0.1) _ entry b''.2 in
     let found : Entry = Commit n.0.0.0 n.0.0.1 s.0.0 v.0.0.0 v.0.0.1 p.0.0 in
     let end = at_end_some found entry p.0.1 p.2 in
     let word = (word_field (codes "commit ")).takes line w.0.0 w.0.1 w.1 in
@@ -199,8 +199,8 @@ commit_takes format criteria line entry m e =
     let line_is : line ≡ entry_line found = whole ∙ rw end.0 (append-nil _) in
     subst (Spells format criteria line) end.1 (line_is, (numbers.1.0, numbers.1.1, vectors.1.0, vectors.1.1, point.1))
 
-commit_again : (criteria : Criteria) (desk question : ℕ) (side : Side) (plus minus point : List ℤ) → IsModel criteria → HasDeskForm desk → HasNumberForm question → HasVectorForm criteria plus → HasVectorForm criteria minus → HasVectorForm criteria point → commit_at (increments criteria.levels) (commit_line desk question side plus minus point) ≡ Some (Commit desk question side plus minus point)
-unfolding commit_at
+commit_again : (criteria : Criteria) (desk question : ℕ) (side : Side) (plus minus point : List ℤ) → IsModel criteria → HasDeskForm desk → HasNumberForm question → HasVectorForm criteria plus → HasVectorForm criteria minus → HasVectorForm criteria point → read_commit (increments criteria.levels) (commit_line desk question side plus minus point) ≡ Some (Commit desk question side plus minus point)
+unfolding read_commit
 commit_again criteria desk question side plus minus point m desk_form question_form plus_form minus_form point_form =
     let behind_vectors : List ℕ = codes " " ++ (vector_text point ++ []) in
     let behind_side : List ℕ = codes " " ++ (vectors_text plus minus ++ behind_vectors) in
@@ -208,13 +208,13 @@ commit_again criteria desk question side plus minus point m desk_form question_f
     let s = side_field.again side behind_side tt tt in
     let v = (vectors_field criteria m).again (plus, minus) behind_vectors (plus_form, minus_form) (refl, refl) in
     let p = (vector_field criteria m).again point [] point_form (tt, refl) in
-    ap (commit_at (increments criteria.levels)) (sym (append-nil (commit_line desk question side plus minus point)) ∙ sym (regroup8 (codes "commit ") (numbers_text desk question) (codes " ") (side_text side) (codes " ") (vectors_text plus minus) (codes " ") (vector_text point) [])) ∙ rw (n, s, v, p) refl
+    ap (read_commit (increments criteria.levels)) (sym (append-nil (commit_line desk question side plus minus point)) ∙ sym (regroup8 (codes "commit ") (numbers_text desk question) (codes " ") (side_text side) (codes " ") (vectors_text plus minus) (codes " ") (vector_text point) [])) ∙ rw (n, s, v, p) refl
 
-close_takes : (format : Format) (criteria : Criteria) (line : List ℕ) (entry : Entry) → close_at line ≡ Some entry → Spells format criteria line entry
-unfolding close_at
+close_takes : (format : Format) (criteria : Criteria) (line : List ℕ) (entry : Entry) → read_close line ≡ Some entry → Spells format criteria line entry
+unfolding read_close
 close_takes format criteria line entry e =
-    let w = bind_some (word_at (codes "close ") line) _ entry e in
-    let n = bind_some (numbers_at w.0.1) _ entry w.2 in
+    let w = bind_some (read_word (codes "close ") line) _ entry e in
+    let n = bind_some (read_numbers w.0.1) _ entry w.2 in
     let found : Entry = Close n.0.0.0 n.0.0.1 in
     let end = at_end_some found entry n.0.1 n.2 in
     let word = (word_field (codes "close ")).takes line w.0.0 w.0.1 w.1 in
@@ -223,17 +223,17 @@ close_takes format criteria line entry e =
     let line_is : line ≡ entry_line found = whole ∙ rw end.0 (append-nil _) in
     subst (Spells format criteria line) end.1 (line_is, numbers.1)
 
-close_again : (desk question : ℕ) → HasDeskForm desk → HasNumberForm question → close_at (close_line desk question) ≡ Some (Close desk question)
-unfolding close_at
+close_again : (desk question : ℕ) → HasDeskForm desk → HasNumberForm question → read_close (close_line desk question) ≡ Some (Close desk question)
+unfolding read_close
 close_again desk question desk_form question_form =
     let n = desk_number_field.again (desk, question) [] (desk_form, question_form) tt in
-    ap close_at (sym (append-nil (close_line desk question)) ∙ append_assoc (codes "close ") (numbers_text desk question) []) ∙ rw n refl
+    ap read_close (sym (append-nil (close_line desk question)) ∙ append_assoc (codes "close ") (numbers_text desk question) []) ∙ rw n refl
 
-withdraw_takes : (criteria : Criteria) (line : List ℕ) (entry : Entry) → withdraw_at line ≡ Some entry → Spells Two criteria line entry
-unfolding withdraw_at
+withdraw_takes : (criteria : Criteria) (line : List ℕ) (entry : Entry) → read_withdraw line ≡ Some entry → Spells Two criteria line entry
+unfolding read_withdraw
 withdraw_takes criteria line entry e =
-    let w = bind_some (word_at (codes "withdraw ") line) _ entry e in
-    let n = bind_some (numbers_at w.0.1) _ entry w.2 in
+    let w = bind_some (read_word (codes "withdraw ") line) _ entry e in
+    let n = bind_some (read_numbers w.0.1) _ entry w.2 in
     let found : Entry = Withdraw n.0.0.0 n.0.0.1 in
     let end = at_end_some found entry n.0.1 n.2 in
     let word = (word_field (codes "withdraw ")).takes line w.0.0 w.0.1 w.1 in
@@ -242,11 +242,11 @@ withdraw_takes criteria line entry e =
     let line_is : line ≡ entry_line found = whole ∙ rw end.0 (append-nil _) in
     subst (Spells Two criteria line) end.1 (line_is, numbers.1)
 
-withdraw_again : (desk answer : ℕ) → HasDeskForm desk → HasNumberForm answer → withdraw_at (withdraw_line desk answer) ≡ Some (Withdraw desk answer)
-unfolding withdraw_at
+withdraw_again : (desk answer : ℕ) → HasDeskForm desk → HasNumberForm answer → read_withdraw (withdraw_line desk answer) ≡ Some (Withdraw desk answer)
+unfolding read_withdraw
 withdraw_again desk answer desk_form answer_form =
     let n = desk_number_field.again (desk, answer) [] (desk_form, answer_form) tt in
-    ap withdraw_at (sym (append-nil (withdraw_line desk answer)) ∙ append_assoc (codes "withdraw ") (numbers_text desk answer) []) ∙ rw n refl
+    ap read_withdraw (sym (append-nil (withdraw_line desk answer)) ∙ append_assoc (codes "withdraw ") (numbers_text desk answer) []) ∙ rw n refl
 
 withdrawal_takes : (format : Format) (criteria : Criteria) (line : List ℕ) (entry : Entry) → withdrawal_in format line ≡ Some entry → Spells format criteria line entry
 withdrawal_takes One criteria line entry e = absurd cc
@@ -254,14 +254,14 @@ withdrawal_takes Two criteria line entry e = withdraw_takes criteria line entry 
 
 -- ---- the contract of the reader
 
-step_takes : (format : Format) (criteria : Criteria) (line : List ℕ) (entry : Entry) → IsModel criteria → step_at format (length criteria.levels) (increments criteria.levels) line ≡ Some entry → Spells format criteria line entry
-unfolding step_at
+step_takes : (format : Format) (criteria : Criteria) (line : List ℕ) (entry : Entry) → IsModel criteria → read_step format (length criteria.levels) (increments criteria.levels) line ≡ Some entry → Spells format criteria line entry
+unfolding read_step
 step_takes format criteria line entry m e =
-    elim (or_else_some (issue_at (length criteria.levels) (increments criteria.levels) line) _ entry e) [
+    elim (or_else_some (read_issue (length criteria.levels) (increments criteria.levels) line) _ entry e) [
       | inl issue ↦ issue_takes format criteria line entry m issue
-      | inr other ↦ elim (or_else_some (commit_at (increments criteria.levels) line) _ entry other) [
+      | inr other ↦ elim (or_else_some (read_commit (increments criteria.levels) line) _ entry other) [
         | inl commit ↦ commit_takes format criteria line entry m commit
-        | inr other' ↦ elim (or_else_some (close_at line) (withdrawal_in format line) entry other') [
+        | inr other' ↦ elim (or_else_some (read_close line) (withdrawal_in format line) entry other') [
           | inl close ↦ close_takes format criteria line entry close
           | inr withdrawal ↦ withdrawal_takes format criteria line entry withdrawal
         ]
@@ -273,8 +273,8 @@ abbrev pub IsStep : Entry → Type 0
 IsStep (Eliminate e) = ⊥
 IsStep _ = Unit {0}
 
-step_again : (format : Format) (criteria : Criteria) (entry : Entry) → IsModel criteria → HasEntryForm format criteria entry → IsStep entry → step_at format (length criteria.levels) (increments criteria.levels) (entry_line entry) ≡ Some entry
-unfolding step_at issue_at commit_at close_at
+step_again : (format : Format) (criteria : Criteria) (entry : Entry) → IsModel criteria → HasEntryForm format criteria entry → IsStep entry → read_step format (length criteria.levels) (increments criteria.levels) (entry_line entry) ≡ Some entry
+unfolding read_step read_issue read_commit read_close
 step_again format criteria (Eliminate e) m form step = absurd step
 step_again format criteria (Issue desk pair plus minus) m form step =
     rw (issue_again criteria desk pair plus minus m form.0 form.1 form.2 form.3) refl
@@ -285,13 +285,13 @@ step_again One criteria (Withdraw desk answer) m form step = absurd form
 step_again Two criteria (Withdraw desk answer) m form step = rw (withdraw_again desk answer form.0 form.1) refl
 
 -- the line of such an entry is no eliminate line
-pub no_elimination_at : (criteria steps : ℕ) (entry : Entry) → IsStep entry → elimination_at criteria steps (entry_line entry) ≡ None
-unfolding elimination_at
-no_elimination_at criteria steps (Eliminate e) step = absurd step
-no_elimination_at criteria steps (Issue desk pair plus minus) step = refl
-no_elimination_at criteria steps (Commit desk question side plus minus point) step = refl
-no_elimination_at criteria steps (Close desk question) step = refl
-no_elimination_at criteria steps (Withdraw desk answer) step = refl
+pub read_no_elimination : (criteria steps : ℕ) (entry : Entry) → IsStep entry → read_elimination criteria steps (entry_line entry) ≡ None
+unfolding read_elimination
+read_no_elimination criteria steps (Eliminate e) step = absurd step
+read_no_elimination criteria steps (Issue desk pair plus minus) step = refl
+read_no_elimination criteria steps (Commit desk question side plus minus point) step = refl
+read_no_elimination criteria steps (Close desk question) step = refl
+read_no_elimination criteria steps (Withdraw desk answer) step = refl
 
 if_some : {X : Type 0} (o : Option X) (P : X → Type 0) → ((x : X) → o ≡ Some x → P x) → IfSome o P
 if_some None P h = tt
@@ -302,7 +302,7 @@ not_both None x some none = absurd cc
 not_both (Some y) x some none = absurd cc
 
 -- an eliminate line was read
-pub reads_elimination : (format : Format) (criteria : Criteria) (line : List ℕ) (e : Elimination) → IsModel criteria → elimination_at (length criteria.levels) (increments criteria.levels) line ≡ Some e → AreCites e.combination.answers → ReadsEntry format criteria line (Some (Eliminate e))
+pub reads_elimination : (format : Format) (criteria : Criteria) (line : List ℕ) (e : Elimination) → IsModel criteria → read_elimination (length criteria.levels) (increments criteria.levels) line ≡ Some e → AreCites e.combination.answers → ReadsEntry format criteria line (Some (Eliminate e))
 reads_elimination format criteria line e m read cites = record {
   sound = elimination_line_takes criteria line e m read cites;
   complete = complete;
@@ -310,22 +310,22 @@ reads_elimination format criteria line e m read cites = record {
   where
     none : (entry : Entry) → line ≡ entry_line entry → IsStep entry → ⊥
     none entry spelled step =
-        not_both _ e read (rw spelled (no_elimination_at (length criteria.levels) (increments criteria.levels) entry step))
+        not_both _ e read (rw spelled (read_no_elimination (length criteria.levels) (increments criteria.levels) entry step))
 
     complete : (entry : Entry) → line ≡ entry_line entry → HasEntryForm format criteria entry → Some (Eliminate e) ≡ Some entry
     complete (Eliminate e') spelled form =
-        let again : elimination_at (length criteria.levels) (increments criteria.levels) line ≡ Some e' = rw spelled (elimination_line_again criteria e' m form) in
+        let again : read_elimination (length criteria.levels) (increments criteria.levels) line ≡ Some e' = rw spelled (elimination_line_again criteria e' m form) in
         ap (λ (x : Elimination). Some (Eliminate x)) (some_is e e' (sym read ∙ again))
     complete entry spelled form = absurd (none entry spelled tt)
 
 -- no eliminate line was read
-pub reads_step : (format : Format) (criteria : Criteria) (line : List ℕ) → IsModel criteria → Reads None (elimination_at (length criteria.levels) (increments criteria.levels) line) → ReadsEntry format criteria line (step_at format (length criteria.levels) (increments criteria.levels) line)
+pub reads_step : (format : Format) (criteria : Criteria) (line : List ℕ) → IsModel criteria → Reads None (read_elimination (length criteria.levels) (increments criteria.levels) line) → ReadsEntry format criteria line (read_step format (length criteria.levels) (increments criteria.levels) line)
 reads_step format criteria line m no_elimination = record {
   sound = if_some _ _ (λ entry e. step_takes format criteria line entry m e);
   complete = complete;
 }
   where
-    complete : (entry : Entry) → line ≡ entry_line entry → HasEntryForm format criteria entry → step_at format (length criteria.levels) (increments criteria.levels) line ≡ Some entry
+    complete : (entry : Entry) → line ≡ entry_line entry → HasEntryForm format criteria entry → read_step format (length criteria.levels) (increments criteria.levels) line ≡ Some entry
     complete (Eliminate e) spelled form =
         absurd (no_elimination e (rw spelled (elimination_line_again criteria e m form)) form.combination.cites)
     complete entry spelled form = rw spelled (step_again format criteria entry m form tt)

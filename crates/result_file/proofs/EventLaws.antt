@@ -21,7 +21,7 @@ use Rattle.result_file.specs.declared.verdicts.Part.TheVariants.{Form, Limit, Cl
 use Rattle.result_file.specs.Checked.{begun, Fails}
 use Rattle.result_file.specs.Contents.{of_events}
 use Rattle.result_file.specs.Entries.{HasEntryForm, ReadsEntry}
-use Rattle.result_file.specs.Events.{pair_at, entry_of, NamesClass, Tells}
+use Rattle.result_file.specs.Events.{pair_at_place, as_entry, NamesClass, Tells}
 use Rattle.result_file.specs.Kept.{KeptSurvey, AddsEvent}
 use Rattle.result_file.specs.Parts.{part_of_broken}
 use Rattle.result_file.specs.RightEvents.{NamesNoClass, EntryFailsAs}
@@ -32,12 +32,12 @@ use Rattle.result_file.specs.Texts.{most_lines, end_line, entry_line}
 pub stands_within : (classes : List Pair) (place : ℕ) (pair : Pair) → StandsAt classes place pair → (1 ≤ place) × (place ≤ length classes)
 stands_within classes place pair h = (h.positive, omega (arith, h.positive, slice_get_within classes (place - 1) pair h.found))
 
-pub stands_read : (classes : List Pair) (place : ℕ) (pair : Pair) → StandsAt classes place pair → pair_at classes place ≡ pair
+pub stands_read : (classes : List Pair) (place : ℕ) (pair : Pair) → StandsAt classes place pair → pair_at_place classes place ≡ pair
 stands_read classes place pair h = rw h.found refl
 
 -- ---- an entry's event
 
-told_is_event : (format : Format) (listed : Listed) (event : Event) → HasEntryForm format listed.criteria (entry_of listed.classes event) → IsEvent listed.criteria.levels event
+told_is_event : (format : Format) (listed : Listed) (event : Event) → HasEntryForm format listed.criteria (as_entry listed.classes event) → IsEvent listed.criteria.levels event
 told_is_event format listed (events.Eliminate worker place verdict combination) h = (h.worker, h.combination.len, h.combination.scale)
 told_is_event format listed (events.Issue desk place plus minus) h = (h.0, h.2.values, h.3.values)
 told_is_event format listed (events.Commit desk question side plus minus point) h = (h.0, h.2.values, h.3.values, h.4.values)
@@ -107,7 +107,7 @@ adds_event old new line entry event form spelled room tells format listed histor
     listed = rw listed h.listed;
     legal = legal;
     forms =
-        let P : Event → Type 0 = λ e. HasEntryForm old.format old.survey.listed.criteria (entry_of old.survey.listed.classes e) in
+        let P : Event → Type 0 = λ e. HasEntryForm old.format old.survey.listed.criteria (as_entry old.survey.listed.classes e) in
         rw (format, listed, history) (All-append P old.survey.history (event ∷ []) h.forms (All-cons P event [] (rw tells.told at form) (All-nil P)));
   };
 }

@@ -10,26 +10,26 @@ use Rattle.survey_core.specs.declared.events.Event.TheVariants as events
 use Rattle.survey_core.specs.Legal.{IsPlace, MayFollow}
 use Rattle.survey_core.proofs.ListSteps.{slice_get_inside}
 use Rattle.result_file.specs.declared.eliminations.Elimination.{Elimination}
-use Rattle.result_file.specs.Events.{pair_at, entry_of, NamesClass}
+use Rattle.result_file.specs.Events.{pair_at_place, as_entry, NamesClass}
 
 -- ---- classes by their places
 
 -- at the place of a class stands the pair that is read there
-pub stands_there : (listed : Listed) (place : ℕ) → IsPlace listed place → StandsAt listed.classes place (pair_at listed.classes place)
+pub stands_there : (listed : Listed) (place : ℕ) → IsPlace listed place → StandsAt listed.classes place (pair_at_place listed.classes place)
 stands_there listed place is_place =
     let found : (pair : Pair) × (slice_get listed.classes (place - 1) ≡ Some pair) =
     slice_get_inside listed.classes (place - 1) (omega (arith, is_place.0, is_place.1)) in
-    let read : pair_at listed.classes place ≡ found.0 = rw (found.1) refl in
+    let read : pair_at_place listed.classes place ≡ found.0 = rw (found.1) refl in
     record { positive = is_place.0; found = found.1 ∙ ap Some (sym read) }
 
-pub is_class_there : (listed : Listed) (place : ℕ) → IsListed listed → IsPlace listed place → IsClass listed.criteria (pair_at listed.classes place)
+pub is_class_there : (listed : Listed) (place : ℕ) → IsListed listed → IsPlace listed place → IsClass listed.criteria (pair_at_place listed.classes place)
 is_class_there listed place list is_place =
-    (list.list.members (pair_at listed.classes place)).0 (stands_contains listed.classes place (pair_at listed.classes place) (stands_there listed place is_place))
+    (list.list.members (pair_at_place listed.classes place)).0 (stands_contains listed.classes place (pair_at_place listed.classes place) (stands_there listed place is_place))
 
 place_once : (listed : Listed) (one other : ℕ) → IsListed listed → IsPlace listed one → IsPlace listed other
-    → pair_at listed.classes one ≡ pair_at listed.classes other → one ≡ other
+    → pair_at_place listed.classes one ≡ pair_at_place listed.classes other → one ≡ other
 place_once listed one other list h k same =
-    stands_once listed.classes one other (pair_at listed.classes other) list.list.ordered
+    stands_once listed.classes one other (pair_at_place listed.classes other) list.list.ordered
     (subst (λ (pair : Pair). StandsAt listed.classes one pair) same (stands_there listed one h)) (stands_there listed other k)
 
 -- ---- events
@@ -43,10 +43,10 @@ names_class listed history (events.Close desk question) may = tt
 names_class listed history (events.Withdraw desk answer) may = tt
 
 pub event_once : (listed : Listed) (one other : Event) → IsListed listed → NamesClass listed one → NamesClass listed other
-    → entry_of listed.classes one ≡ entry_of listed.classes other → one ≡ other
+    → as_entry listed.classes one ≡ as_entry listed.classes other → one ≡ other
 event_once listed (events.Eliminate w p v c) (events.Eliminate x q u d) list h k same =
-    let e : Elimination = record { worker = w; pair = pair_at listed.classes p; verdict = v; combination = c } in
-    let f : Elimination = record { worker = x; pair = pair_at listed.classes q; verdict = u; combination = d } in
+    let e : Elimination = record { worker = w; pair = pair_at_place listed.classes p; verdict = v; combination = c } in
+    let f : Elimination = record { worker = x; pair = pair_at_place listed.classes q; verdict = u; combination = d } in
     let whole : e ≡ f = cc in
     let workers : w ≡ x = ap (λ (z : Elimination). z.worker) whole in
     let places : p ≡ q = place_once listed p q list h k (ap (λ (z : Elimination). z.pair) whole) in
@@ -58,7 +58,7 @@ event_once listed (events.Eliminate w p v c) (events.Commit desk question side p
 event_once listed (events.Eliminate w p v c) (events.Close desk question) list h k same = absurd cc
 event_once listed (events.Eliminate w p v c) (events.Withdraw desk answer) list h k same = absurd cc
 event_once listed (events.Issue desk p plus minus) (events.Issue other_desk q other_plus other_minus) list h k same =
-    let pairs : pair_at listed.classes p ≡ pair_at listed.classes q = cc in
+    let pairs : pair_at_place listed.classes p ≡ pair_at_place listed.classes q = cc in
     let places : p ≡ q = place_once listed p q list h k pairs in
     cc
 event_once listed (events.Issue desk p plus minus) (events.Eliminate w q v c) list h k same = absurd cc

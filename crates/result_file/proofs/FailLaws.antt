@@ -22,7 +22,7 @@ use Rattle.result_file.specs.declared.verdicts.Part.TheVariants.{Form, Model, Li
 use Rattle.result_file.specs.Claims.{Claim, answered, eliminated, pair_of, answers_of}
 use Rattle.result_file.specs.Contents.{Content, of_claims, of_events, criteria_of, IsRightContent}
 use Rattle.result_file.specs.Checked.{Stage, blank, headed, begun, ended, Says, HasNoForm, HasWrongPart, Fails, HasEnded}
-use Rattle.result_file.specs.Events.{entry_of, NamesClass, Tells}
+use Rattle.result_file.specs.Events.{as_entry, NamesClass, Tells}
 use Rattle.result_file.specs.Forms.{HasModelForm}
 use Rattle.result_file.specs.Parts.{part_of, part_of_broken}
 use Rattle.result_file.specs.RightClaims.{IsRight, HasFlaw, FailsAs}
@@ -121,7 +121,7 @@ right_claim_holds criteria before claim part right h =
 -- ---- an entry
 
 -- an entry that tells an event of a class names one
-tells_a_class : (listed : Listed) (event : Event) → IsListed listed → NamesClass listed event → ¬ NamesNoClass listed.criteria (entry_of listed.classes event)
+tells_a_class : (listed : Listed) (event : Event) → IsListed listed → NamesClass listed event → ¬ NamesNoClass listed.criteria (as_entry listed.classes event)
 tells_a_class listed (events.Eliminate worker place verdict combination) list named none = none (is_class_there listed place list named)
 tells_a_class listed (events.Issue desk place plus minus) list named none = none (is_class_there listed place list named)
 tells_a_class listed (events.Commit desk question side plus minus point) list named none = none
@@ -167,17 +167,17 @@ entry_fails_once survey entry one other list h k =
     ]
 
 right_event_holds : (format : Format) (survey : Recorded) (line : List ℕ) (next : Content) (part : Part) → (adds : AddsRightEvent format survey line next)
-    → ¬ EntryFailsAs survey (entry_of survey.listed.classes adds.event) part
+    → ¬ EntryFailsAs survey (as_entry survey.listed.classes adds.event) part
 right_event_holds format survey line next part adds h =
     let named : NamesClass survey.listed adds.event = names_class survey.listed survey.history adds.event adds.may in
-    elim (fails_entry survey (entry_of survey.listed.classes adds.event) part h) [
+    elim (fails_entry survey (as_entry survey.listed.classes adds.event) part h) [
       | inl limit ↦ omega (arith, limit.1, adds.room)
       | inr past ↦ elim past [
         | inl class ↦ tells_a_class survey.listed adds.event adds.listed named class.2
         | inr breaks ↦
-            (let told : Tells survey.listed (entry_of survey.listed.classes adds.event) adds.event = record { class = named; told = refl } in
+            (let told : Tells survey.listed (as_entry survey.listed.classes adds.event) adds.event = record { class = named; told = refl } in
             let same : breaks.1.event ≡ adds.event =
-            tells_once survey.listed (entry_of survey.listed.classes adds.event) breaks.1.event adds.event adds.listed breaks.1.tells told in
+            tells_once survey.listed (as_entry survey.listed.classes adds.event) breaks.1.event adds.event adds.listed breaks.1.tells told in
             allowed_lacks_none_lem survey.listed survey.history adds.event breaks.1.broken adds.may
             (subst (λ (event : Event). FailsFirst survey.listed survey.history event breaks.1.broken) same breaks.1.fails))
       ]
@@ -243,7 +243,7 @@ fine_model kind line content begins =
 -- the line of a right claim or event has a form, and no wrong part
 adds_has_form : (content : Content) (line : List ℕ) (next : Content) → AddsRight content line next → ¬ HasNoForm content line
 adds_has_form (of_claims criteria claims) line next adds none = none adds.claim adds.right.form adds.spelled
-adds_has_form (of_events format survey) line next adds none = none (entry_of survey.listed.classes adds.event) adds.form adds.spelled
+adds_has_form (of_events format survey) line next adds none = none (as_entry survey.listed.classes adds.event) adds.form adds.spelled
 
 adds_holds : (content : Content) (line : List ℕ) (next : Content) (part : Part) → AddsRight content line next → ¬ HasWrongPart content line part
 adds_holds (of_claims criteria claims) line next part adds wrong =
@@ -251,7 +251,7 @@ adds_holds (of_claims criteria claims) line next part adds wrong =
     claim_line_once criteria wrong.0 adds.claim adds.model wrong.1 adds.right.form (sym wrong.2 ∙ adds.spelled) in
     right_claim_holds criteria claims adds.claim part adds.right (subst (λ (claim : Claim). FailsAs criteria claims claim part) same wrong.3)
 adds_holds (of_events format survey) line next part adds wrong =
-    let entry : Entry = entry_of survey.listed.classes adds.event in
+    let entry : Entry = as_entry survey.listed.classes adds.event in
     let same : wrong.0 ≡ entry =
     entry_line_once format survey.listed.criteria wrong.0 entry adds.listed.model wrong.1 adds.form (sym wrong.2 ∙ adds.spelled) in
     right_event_holds format survey line next part adds (subst (λ (e : Entry). EntryFailsAs survey e part) same wrong.3)
@@ -261,7 +261,7 @@ adds_fits (of_claims criteria claims) line next adds =
     subst (λ (l : List ℕ). length l ≤ longest_line) (sym adds.spelled) (claim_line_fits criteria adds.claim adds.model adds.right.form)
 adds_fits (of_events format survey) line next adds =
     subst (λ (l : List ℕ). length l ≤ longest_line) (sym adds.spelled)
-    (entry_line_fits format survey.listed.criteria (entry_of survey.listed.classes adds.event) adds.listed.model adds.form)
+    (entry_line_fits format survey.listed.criteria (as_entry survey.listed.classes adds.event) adds.listed.model adds.form)
 
 fine_next : (content : Content) (line : List ℕ) (next : Content) → AddsRight content line next → IsFine (begun content) line
 fine_next content line next adds = record {

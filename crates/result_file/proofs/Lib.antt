@@ -8,7 +8,7 @@ pub mod ContentLaws
 pub mod StageLaws
 pub mod VerdictLaws
 pub mod WorthLaws
-pub mod SplitLaws
+pub mod ListEnds
 pub mod LengthLaws
 pub mod SpelledLaws
 pub mod EventOnce

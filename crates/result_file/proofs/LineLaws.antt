@@ -3,7 +3,7 @@ use Rattle.std.proofs.Common.{◌≡◌, ℕ, suc, ◌+◌, ◌<◌, ◌≤◌, 
 use Rattle.std.specs.List.{All, flat_map}
 use Rattle.std.specs.Fmt.{decimal, signed_decimal}
 use Rattle.text_fields.specs.Spelling.{EndsNumber, IsCertificate, IsList, is_next, listed}
-use Rattle.text_fields.specs.Reading.{certificate_at, list_at, number_at, word_at}
+use Rattle.text_fields.specs.Reading.{read_certificate, read_list, read_number, read_word}
 use Rattle.text_fields.specs.Laws.{IsField}
 use Rattle.text_fields.proofs.NumberLaws.{numbers_field, certificates_field, bind_some, some_is}
 use Rattle.text_fields.proofs.ListLaws.{list_field}
@@ -19,13 +19,13 @@ use Rattle.criteria_model.specs.declared.pairs.Side.TheVariants.{Left, Right, Eq
 use Rattle.result_file.specs.Texts.{pair_text, side_text, ranking_text, answer_line, model_line}
 use Rattle.result_file.specs.Forms.{HasModelForm}
 use Rattle.criteria_model.specs.Criteria.{Criteria}
-use Rattle.result_file.specs.Reading.{at_end, or_else, exactly, tuple_at, pair_at, side_behind, side_at, ranking_at, answer_at, model_at}
+use Rattle.result_file.specs.Reading.{at_end, or_else, exactly, read_tuple, read_pair, side_behind, read_side, read_ranking, read_answer, read_model}
 
 -- numbers up to a limit, joined by commas
-list_numbers : (most room : ℕ) → most < 10 ^ 64 → IsField (list_at (number_at most) room) (listed decimal) (IsList (λ n. n ≤ most) room) (λ t. EndsNumber t × (is_next 0x2C t ≡ false))
+list_numbers : (most room : ℕ) → most < 10 ^ 64 → IsField (read_list (read_number most) room) (listed decimal) (IsList (λ n. n ≤ most) room) (λ t. EndsNumber t × (is_next 0x2C t ≡ false))
 list_numbers most room wide = list_field _ _ _ _ (numbers_field most wide) (λ _. refl) room
 
-pub tuple_of_list : (text items rest : List ℕ) → list_at (number_at 25) 24 text ≡ Some (items, rest) → IsTuple items
+pub tuple_of_list : (text items rest : List ℕ) → read_list (read_number 25) 24 text ≡ Some (items, rest) → IsTuple items
 tuple_of_list text items rest e =
     let h = ((list_numbers 25 24 (lit< tt)).takes text items rest e).1 in
     record { some = h.some; most = h.most; within = h.each }
@@ -76,12 +76,12 @@ pub record IsExactly {X : Type 0} (P : X → Type 0) (count : ℕ) (xs : List X)
 abbrev pub EndsSide : List ℕ → Type 0
 EndsSide t = EndsNumber t × (is_next 0x2C t ≡ false)
 
-pub exactly_field : {X : Type 0} (item : List ℕ → Option (X × List ℕ)) (spell : X → List ℕ) (P : X → Type 0) → IsField item spell P EndsNumber → (count : ℕ) → 1 ≤ count → count ≤ 24 → IsField (λ text. exactly count (list_at item 24 text)) (listed spell) (IsExactly P count) EndsSide
+pub exactly_field : {X : Type 0} (item : List ℕ → Option (X × List ℕ)) (spell : X → List ℕ) (P : X → Type 0) → IsField item spell P EndsNumber → (count : ℕ) → 1 ≤ count → count ≤ 24 → IsField (λ text. exactly count (read_list item 24 text)) (listed spell) (IsExactly P count) EndsSide
 exactly_field {X} item spell P field count low high =
     let lists = list_field item spell P EndsNumber field (λ _. refl) 24 in
     record {
       takes = λ text xs rest e.
-          let b = bind_some (list_at item 24 text) (λ found. cond (length found.0 == count) (Some found) None) (xs, rest) e in
+          let b = bind_some (read_list item 24 text) (λ found. cond (length found.0 == count) (Some found) None) (xs, rest) e in
           let c = cond_some (length b.0.0 == count) b.0 (xs, rest) b.2 in
           let t = lists.takes text b.0.0 b.0.1 b.1 in
           let len : length b.0.0 ≡ count = grind (arith, nat_tests) in
@@ -92,29 +92,29 @@ exactly_field {X} item spell P field count low high =
           rw (again, same) refl;
     }
 
-pub vector_of_list : (text : List ℕ) (items : List ℤ) (rest : List ℕ) → list_at certificate_at 24 text ≡ Some (items, rest) → IsVector items
+pub vector_of_list : (text : List ℕ) (items : List ℤ) (rest : List ℕ) → read_list read_certificate 24 text ≡ Some (items, rest) → IsVector items
 vector_of_list text items rest e =
-    let h = ((list_field certificate_at signed_decimal IsCertificate EndsNumber certificates_field (λ _. refl) 24).takes text items rest e).1 in
+    let h = ((list_field read_certificate signed_decimal IsCertificate EndsNumber certificates_field (λ _. refl) 24).takes text items rest e).1 in
     record { some = h.some; most = h.most; within = h.each }
 
 -- ---- a pair and a side of it
 
-tuple_field : (criteria : ℕ) → 1 ≤ criteria → criteria ≤ 24 → IsField (tuple_at criteria) (listed decimal) (IsExactly (λ n. n ≤ 25) criteria) EndsSide
-unfolding tuple_at
-tuple_field criteria low high = exactly_field (number_at 25) decimal (λ n. n ≤ 25) (numbers_field 25 (lit< tt)) criteria low high
+tuple_field : (criteria : ℕ) → 1 ≤ criteria → criteria ≤ 24 → IsField (read_tuple criteria) (listed decimal) (IsExactly (λ n. n ≤ 25) criteria) EndsSide
+unfolding read_tuple
+tuple_field criteria low high = exactly_field (read_number 25) decimal (λ n. n ≤ 25) (numbers_field 25 (lit< tt)) criteria low high
 
 pub record IsPair (criteria : ℕ) (pair : Pair) : Type 0 where
   pub left : IsExactly (λ n. n ≤ 25) criteria pair.left
   pub right : IsExactly (λ n. n ≤ 25) criteria pair.right
 
-pub pair_field : (criteria : ℕ) → 1 ≤ criteria → criteria ≤ 24 → IsField (pair_at criteria) pair_text (IsPair criteria) EndsSide
-unfolding pair_at
+pub pair_field : (criteria : ℕ) → 1 ≤ criteria → criteria ≤ 24 → IsField (read_pair criteria) pair_text (IsPair criteria) EndsSide
+unfolding read_pair
 pair_field criteria low high = record {
   takes = λ text pair rest e.
       let side = tuple_field criteria low high in
-      let b = bind_some (tuple_at criteria text) _ (pair, rest) e in
-      let w = bind_some (word_at (codes "/") b.0.1) _ (pair, rest) b.2 in
-      let r = bind_some (tuple_at criteria w.0.1) _ (pair, rest) w.2 in
+      let b = bind_some (read_tuple criteria text) _ (pair, rest) e in
+      let w = bind_some (read_word (codes "/") b.0.1) _ (pair, rest) b.2 in
+      let r = bind_some (read_tuple criteria w.0.1) _ (pair, rest) w.2 in
       let left = side.takes text b.0.0 b.0.1 b.1 in
       let slash = (word_field (codes "/")).takes b.0.1 w.0.0 w.0.1 w.1 in
       let right = side.takes w.0.1 r.0.0 r.0.1 r.1 in
@@ -124,14 +124,14 @@ pair_field criteria low high = record {
       let side = tuple_field criteria low high in
       let first = side.again pair.left (codes "/" ++ (listed decimal pair.right ++ rest)) h.left (refl, refl) in
       let second = side.again pair.right rest h.right ends in
-      ap (pair_at criteria) (sym (regroup3 (listed decimal pair.left) (codes "/") (listed decimal pair.right) rest)) ∙ rw (first, second) refl;
+      ap (read_pair criteria) (sym (regroup3 (listed decimal pair.left) (codes "/") (listed decimal pair.right) rest)) ∙ rw (first, second) refl;
 }
 
 -- ---- a side
 
 side_behind_takes : (side : Side) (word text : List ℕ) (found : Side × List ℕ) → side_behind side word text ≡ Some found → (found.0 ≡ side) × (text ≡ word ++ found.1)
 side_behind_takes side word text found e =
-    let b = bind_some (word_at word text) _ found e in
+    let b = bind_some (read_word word text) _ found e in
     let t = (word_field word).takes text b.0.0 b.0.1 b.1 in
     subst (λ (x : Side × List ℕ). (x.0 ≡ side) × (text ≡ word ++ x.1)) (some_is _ _ b.2) (refl, t.0)
 
@@ -148,8 +148,8 @@ side_is side text found e =
     let t = side_behind_takes side (side_text side) text found e in
     rw t.0 t.1
 
-pub side_field : IsField side_at side_text (λ _. Unit {0}) (λ _. Unit {0})
-unfolding side_at IsSideAt
+pub side_field : IsField read_side side_text (λ _. Unit {0}) (λ _. Unit {0})
+unfolding read_side IsSideAt
 side_field = record {
   takes = λ text side rest e.
       let found : IsSideAt text (side, rest) = elim (or_else_some (side_behind Left (codes "left") text) _ (side, rest) e) [
@@ -163,20 +163,20 @@ side_field = record {
   again = λ side rest h ends. side_again side rest;
 }
   where
-    side_again : (side : Side) (rest : List ℕ) → side_at (side_text side ++ rest) ≡ Some (side, rest)
+    side_again : (side : Side) (rest : List ℕ) → read_side (side_text side ++ rest) ≡ Some (side, rest)
     side_again Left rest = refl
     side_again Right rest = refl
     side_again Equal rest = refl
 
 -- ---- rankings and answer lines
 
-pub ranking_field : (criteria : ℕ) → 1 ≤ criteria → criteria ≤ 24 → IsField (ranking_at criteria) ranking_text (λ answer. IsPair criteria answer.pair) (λ _. Unit {0})
-unfolding ranking_at
+pub ranking_field : (criteria : ℕ) → 1 ≤ criteria → criteria ≤ 24 → IsField (read_ranking criteria) ranking_text (λ answer. IsPair criteria answer.pair) (λ _. Unit {0})
+unfolding read_ranking
 ranking_field criteria low high = record {
   takes = λ text ranking rest e.
-      let p = bind_some (pair_at criteria text) _ (ranking, rest) e in
-      let b = bind_some (word_at (codes " ") p.0.1) _ (ranking, rest) p.2 in
-      let s = bind_some (side_at b.0.1) _ (ranking, rest) b.2 in
+      let p = bind_some (read_pair criteria text) _ (ranking, rest) e in
+      let b = bind_some (read_word (codes " ") p.0.1) _ (ranking, rest) p.2 in
+      let s = bind_some (read_side b.0.1) _ (ranking, rest) b.2 in
       let pair = (pair_field criteria low high).takes text p.0.0 p.0.1 p.1 in
       let blank = (word_field (codes " ")).takes p.0.1 b.0.0 b.0.1 b.1 in
       let side = side_field.takes b.0.1 s.0.0 s.0.1 s.1 in
@@ -185,14 +185,14 @@ ranking_field criteria low high = record {
   again = λ ranking rest h ends.
       let first = (pair_field criteria low high).again ranking.pair (codes " " ++ (side_text ranking.side ++ rest)) h (refl, refl) in
       let second = side_field.again ranking.side rest tt tt in
-      ap (ranking_at criteria) (sym (regroup3 (pair_text ranking.pair) (codes " ") (side_text ranking.side) rest)) ∙ rw (first, second) refl;
+      ap (read_ranking criteria) (sym (regroup3 (pair_text ranking.pair) (codes " ") (side_text ranking.side) rest)) ∙ rw (first, second) refl;
 }
 
-pub answer_takes : (criteria : ℕ) (line : List ℕ) (answer : Answer) → 1 ≤ criteria → criteria ≤ 24 → answer_at criteria line ≡ Some answer → (line ≡ answer_line answer) × IsPair criteria answer.pair
-unfolding answer_at
+pub answer_takes : (criteria : ℕ) (line : List ℕ) (answer : Answer) → 1 ≤ criteria → criteria ≤ 24 → read_answer criteria line ≡ Some answer → (line ≡ answer_line answer) × IsPair criteria answer.pair
+unfolding read_answer
 answer_takes criteria line answer low high e =
-    let w = bind_some (word_at (codes "answer ") line) _ answer e in
-    let r = bind_some (ranking_at criteria w.0.1) _ answer w.2 in
+    let w = bind_some (read_word (codes "answer ") line) _ answer e in
+    let r = bind_some (read_ranking criteria w.0.1) _ answer w.2 in
     let end = at_end_some r.0.0 answer r.0.1 r.2 in
     let word = (word_field (codes "answer ")).takes line w.0.0 w.0.1 w.1 in
     let ranking = (ranking_field criteria low high).takes w.0.1 r.0.0 r.0.1 r.1 in
@@ -200,21 +200,21 @@ answer_takes criteria line answer low high e =
     let line_is : line ≡ answer_line r.0.0 = whole ∙ rw end.0 (append-nil _) in
     subst (λ (found : Answer). (line ≡ answer_line found) × IsPair criteria found.pair) end.1 (line_is, ranking.1)
 
-pub answer_again : (criteria : ℕ) (answer : Answer) → 1 ≤ criteria → criteria ≤ 24 → IsPair criteria answer.pair → answer_at criteria (answer_line answer) ≡ Some answer
-unfolding answer_at
+pub answer_again : (criteria : ℕ) (answer : Answer) → 1 ≤ criteria → criteria ≤ 24 → IsPair criteria answer.pair → read_answer criteria (answer_line answer) ≡ Some answer
+unfolding read_answer
 answer_again criteria answer low high h =
     let ranking = (ranking_field criteria low high).again answer [] h tt in
-    ap (answer_at criteria) (sym (append-nil (answer_line answer)) ∙ append_assoc (codes "answer ") (ranking_text answer) []) ∙ rw ranking refl
+    ap (read_answer criteria) (sym (append-nil (answer_line answer)) ∙ append_assoc (codes "answer ") (ranking_text answer) []) ∙ rw ranking refl
 
 -- ---- the model line
 
-pub model_takes : (line levels : List ℕ) (degree : ℕ) → model_at line ≡ Some (levels, degree) → (line ≡ model_line (record { levels = levels; degree = degree })) × HasModelForm (record { levels = levels; degree = degree })
-unfolding model_at
+pub model_takes : (line levels : List ℕ) (degree : ℕ) → read_model line ≡ Some (levels, degree) → (line ≡ model_line (record { levels = levels; degree = degree })) × HasModelForm (record { levels = levels; degree = degree })
+unfolding read_model
 model_takes line levels degree e =
-    let w = bind_some (word_at (codes "model ") line) _ (levels, degree) e in
-    let l = bind_some (list_at (number_at 999) 2048 w.0.1) _ (levels, degree) w.2 in
-    let b = bind_some (word_at (codes " degree ") l.0.1) _ (levels, degree) l.2 in
-    let d = bind_some (number_at 999 b.0.1) _ (levels, degree) b.2 in
+    let w = bind_some (read_word (codes "model ") line) _ (levels, degree) e in
+    let l = bind_some (read_list (read_number 999) 2048 w.0.1) _ (levels, degree) w.2 in
+    let b = bind_some (read_word (codes " degree ") l.0.1) _ (levels, degree) l.2 in
+    let d = bind_some (read_number 999 b.0.1) _ (levels, degree) b.2 in
     let end = at_end_some _ (levels, degree) d.0.1 d.2 in
     let word = (word_field (codes "model ")).takes line w.0.0 w.0.1 w.1 in
     let list = (list_numbers 999 2048 (lit< tt)).takes w.0.1 l.0.0 l.0.1 l.1 in
@@ -248,9 +248,9 @@ few_levels criteria h short =
     let c = length-append (codes "model ") (listed decimal criteria.levels) in
     omega (arith, a, b, c)
 
-pub model_again : (criteria : Criteria) → HasModelForm criteria → length (model_line criteria) ≤ 4096 → model_at (model_line criteria) ≡ Some (criteria.levels, criteria.degree)
-unfolding model_at
+pub model_again : (criteria : Criteria) → HasModelForm criteria → length (model_line criteria) ≤ 4096 → read_model (model_line criteria) ≡ Some (criteria.levels, criteria.degree)
+unfolding read_model
 model_again criteria h short =
     let list = (list_numbers 999 2048 (lit< tt)).again criteria.levels (codes " degree " ++ (decimal criteria.degree ++ [])) (record { some = h.some; most = few_levels criteria h short; each = h.levels }) (refl, refl) in
     let degree = (numbers_field 999 (lit< tt)).again criteria.degree [] h.degree tt in
-    ap model_at (sym (append-nil (model_line criteria)) ∙ sym (regroup4 (codes "model ") (listed decimal criteria.levels) (codes " degree ") (decimal criteria.degree) [])) ∙ rw (list, degree) refl
+    ap read_model (sym (append-nil (model_line criteria)) ∙ sym (regroup4 (codes "model ") (listed decimal criteria.levels) (codes " degree ") (decimal criteria.degree) [])) ∙ rw (list, degree) refl

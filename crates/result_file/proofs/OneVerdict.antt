@@ -2,18 +2,18 @@
 use Rattle.std.proofs.Common.{◌≡◌, ◌≢◌, ℕ, zero, suc, ◌+◌, ◌<◌, List, [], ◌∷◌, ◌++◌, length, refl, sym, ap, ap₂, subst, ◌∙◌, inl, inr, arith, append-nil, append_assoc, length-append}
 use Rattle.std.specs.List.{All}
 use Rattle.std.proofs.lemmas.List.Elements.{All-nil, All-cons, All-append}
-use Rattle.edges.specs.Line.{line_end, HasNoLineEnd, HasLineEnd, unlines, first_line}
+use Rattle.edges.specs.Line.{Splits, line_end, HasNoLineEnd, HasLineEnd, unlines, first_line}
 use Rattle.edges.proofs.LineLaws.{first_line-line, first_line-piece, HasLineEnd-line, HasNoLineEnd-not}
 use Rattle.result_file.specs.declared.verdicts.Checked.{Checked}
 use Rattle.result_file.specs.declared.verdicts.Checked.TheVariants.{Valid, ValidComplete, Invalid, Unfinished, ReadFault, NoMemory}
 use Rattle.result_file.specs.declared.verdicts.Part.{Part}
 use Rattle.result_file.specs.declared.verdicts.Part.TheVariants.{Form}
 use Rattle.result_file.specs.Contents.{Content, of_claims, of_events, lines_of, kind_of, criteria_of, IsRightContent, IsCompleteContent}
-use Rattle.result_file.specs.Checked.{Stage, blank, headed, begun, ended, Says, Fails, Splits, HasEnded, NextLineFails, NextFails, LeavesOpen, IsCut, IsFileOf, IsChecked}
-use Rattle.result_file.specs.Events.{entry_of}
+use Rattle.result_file.specs.Checked.{Stage, blank, headed, begun, ended, Says, Fails, HasEnded, NextLineFails, NextFails, LeavesOpen, IsCut, IsFileOf, IsChecked}
+use Rattle.result_file.specs.Events.{as_entry}
 use Rattle.result_file.specs.Laws.{OneContent, IsOnText, OneVerdict}
 use Rattle.result_file.specs.Texts.{longest_line, heading, end_line, model_line}
-use Rattle.result_file.proofs.SplitLaws.{line_once, GoesOnTo, one_goes_on}
+use Rattle.edges.proofs.SplitLaws.{line_once, GoesOnTo, one_goes_on}
 use Rattle.result_file.proofs.LengthLaws.{model_form}
 use Rattle.result_file.proofs.LineEndLaws.{HasNoLineEnd-heading, HasNoLineEnd-model_line, HasNoLineEnd-claim_line, HasNoLineEnd-entry_line, HasNoLineEnd-end_line}
 use Rattle.result_file.proofs.StepLaws.{AddsRight, Steps, last_or_none, empty_lines, says_once, next_steps}
@@ -26,7 +26,7 @@ adds_unbroken (of_claims criteria claims) line next adds =
     subst HasNoLineEnd (sym adds.spelled) (HasNoLineEnd-claim_line criteria adds.claim adds.right.form)
 adds_unbroken (of_events format survey) line next adds =
     subst HasNoLineEnd (sym adds.spelled)
-    (HasNoLineEnd-entry_line format survey.listed.criteria (entry_of survey.listed.classes adds.event) adds.form)
+    (HasNoLineEnd-entry_line format survey.listed.criteria (as_entry survey.listed.classes adds.event) adds.form)
 
 first_lines_unbroken : (content : Content) → IsRightContent content → All HasNoLineEnd ((heading (kind_of content) ∷ []) ++ model_line (criteria_of content) ∷ [])
 first_lines_unbroken content h =

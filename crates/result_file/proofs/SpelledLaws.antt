@@ -16,11 +16,11 @@ use Rattle.result_file.specs.Claims.{Claim, answered, eliminated}
 use Rattle.result_file.specs.Entries.{HasEntryForm}
 use Rattle.result_file.specs.Forms.{HasModelForm}
 use Rattle.result_file.specs.RightClaims.{HasForm}
-use Rattle.result_file.specs.Reading.{model_at, answer_at, elimination_at}
+use Rattle.result_file.specs.Reading.{read_model, read_answer, read_elimination}
 use Rattle.result_file.specs.Texts.{heading, end_line, model_line, answer_line, elimination_line, claim_line, entry_line}
 use Rattle.result_file.proofs.LineLaws.{model_again}
 use Rattle.result_file.proofs.ClaimLaws.{answer_line_again, elimination_line_again}
-use Rattle.result_file.proofs.EntryLaws.{IsStep, no_elimination_at, reads_elimination, reads_step}
+use Rattle.result_file.proofs.EntryLaws.{IsStep, read_no_elimination, reads_elimination, reads_step}
 
 -- two texts that differ at a place are two
 differ : (place : ℕ) (text other : List ℕ) → get_or text place 0 ≢ get_or other place 0 → text ≢ other
@@ -49,10 +49,10 @@ heading_fits (Result Two) = omega arith
 -- a model line of at most the longest length spells one pair of level counts and degree limit
 pub model_line_once : (one other : Criteria) → HasModelForm one → HasModelForm other → length (model_line one) ≤ 4096 → model_line one ≡ model_line other → one ≡ other
 model_line_once one other h k fits same =
-    let first : model_at (model_line one) ≡ Some (one.levels, one.degree) = model_again one h fits in
+    let first : read_model (model_line one) ≡ Some (one.levels, one.degree) = model_again one h fits in
     let other_fits : length (model_line other) ≤ 4096 = omega (arith, fits, ap length same) in
-    let second : model_at (model_line other) ≡ Some (other.levels, other.degree) = model_again other k other_fits in
-    let numbers = some_is (one.levels, one.degree) (other.levels, other.degree) (sym first ∙ ap model_at same ∙ second) in
+    let second : read_model (model_line other) ≡ Some (other.levels, other.degree) = model_again other k other_fits in
+    let numbers = some_is (one.levels, one.degree) (other.levels, other.degree) (sym first ∙ ap read_model same ∙ second) in
     ap₂ (λ (levels : List ℕ) (degree : ℕ). let criteria : Criteria = record { levels = levels; degree = degree } in criteria)
     (ap (λ (p : List ℕ × ℕ). p.0) numbers) (ap (λ (p : List ℕ × ℕ). p.1) numbers)
 
@@ -61,12 +61,12 @@ model_line_once one other h k fits same =
 pub claim_line_once : (criteria : Criteria) (one other : Claim) → IsModel criteria → HasForm criteria one → HasForm criteria other
     → claim_line one ≡ claim_line other → one ≡ other
 claim_line_once criteria (answered a) (answered b) m h k same =
-    let read : List ℕ → Option Answer = answer_at (length criteria.levels) in
+    let read : List ℕ → Option Answer = read_answer (length criteria.levels) in
     ap answered (some_is a b (sym (answer_line_again criteria a m h) ∙ ap read same ∙ answer_line_again criteria b m k))
 claim_line_once criteria (answered a) (eliminated e) m h k same = absurd (differ 0 (answer_line a) (elimination_line e) (λ e. omega (arith, e)) same)
 claim_line_once criteria (eliminated e) (answered a) m h k same = absurd (differ 0 (elimination_line e) (answer_line a) (λ e. omega (arith, e)) same)
 claim_line_once criteria (eliminated d) (eliminated e) m h k same =
-    let read : List ℕ → Option Elimination = elimination_at (length criteria.levels) (increments criteria.levels) in
+    let read : List ℕ → Option Elimination = read_elimination (length criteria.levels) (increments criteria.levels) in
     ap eliminated (some_is d e (sym (elimination_line_again criteria d m h) ∙ ap read same ∙ elimination_line_again criteria e m k))
 
 pub claim_line-is_not_end : (claim : Claim) → claim_line claim ≢ end_line
@@ -78,8 +78,8 @@ claim_line-is_not_end (eliminated e) = differ 1 (elimination_line e) end_line (�
 step_once : (format : Format) (criteria : Criteria) (one other : Entry) → IsModel criteria → IsStep one → HasEntryForm format criteria one
     → HasEntryForm format criteria other → entry_line one ≡ entry_line other → one ≡ other
 step_once format criteria one other m step h k same =
-    let none : elimination_at (length criteria.levels) (increments criteria.levels) (entry_line one) ≡ None =
-    no_elimination_at (length criteria.levels) (increments criteria.levels) one step in
+    let none : read_elimination (length criteria.levels) (increments criteria.levels) (entry_line one) ≡ None =
+    read_no_elimination (length criteria.levels) (increments criteria.levels) one step in
     let reads = reads_step format criteria (entry_line one) m (λ e read. absurd (none-some e (sym none ∙ read))) in
     some_is one other (sym (reads.complete one refl h) ∙ reads.complete other same k)
 

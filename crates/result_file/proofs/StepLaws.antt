@@ -21,11 +21,11 @@ use Rattle.result_file.specs.Claims.{Claim}
 use Rattle.result_file.specs.Contents.{Content, of_claims, of_events, kind_of, criteria_of, body_of, lines_of, IsRightContent}
 use Rattle.result_file.specs.Checked.{Stage, blank, headed, begun, ended, Says}
 use Rattle.result_file.specs.Entries.{HasEntryForm}
-use Rattle.result_file.specs.Events.{entry_of, event_line}
+use Rattle.result_file.specs.Events.{as_entry, event_line}
 use Rattle.result_file.specs.RightClaims.{IsRight, AreClaims}
 use Rattle.result_file.specs.RightEvents.{AreEvents}
 use Rattle.result_file.specs.Texts.{most_lines, heading, end_line, model_line, claim_line}
-use Rattle.result_file.proofs.SplitLaws.{snoc_once, snoc_cases}
+use Rattle.result_file.proofs.ListEnds.{snoc_once, snoc_cases}
 use Rattle.result_file.proofs.SpelledLaws.{heading_once, model_line_once, claim_line_once, claim_line-is_not_end, entry_line_once}
 use Rattle.result_file.proofs.LengthLaws.{model_form, model_line_fits}
 use Rattle.result_file.proofs.EntryLaws.{entry_line-is_not_end}
@@ -53,7 +53,7 @@ pub record AddsRightEvent (format : Format) (survey : Recorded) (line : List ℕ
   pub event : Event
   pub listed : IsListed survey.listed
   pub may : MayFollow survey.listed survey.history event
-  pub form : HasEntryForm format survey.listed.criteria (entry_of survey.listed.classes event)
+  pub form : HasEntryForm format survey.listed.criteria (as_entry survey.listed.classes event)
   pub room : length survey.history < most_lines
   pub spelled : line ≡ event_line survey.listed.classes event
   pub is : next ≡ of_events format (record { listed = survey.listed; history = survey.history ++ event ∷ [] })
@@ -111,8 +111,8 @@ adds_once (of_claims criteria claims) line one other h k =
     h.is ∙ ap (λ (claim : Claim). of_claims criteria (claims ++ claim ∷ [])) same ∙ sym k.is
 adds_once (of_events format survey) line one other h k =
     let listed : Listed = survey.listed in
-    let entries : entry_of listed.classes h.event ≡ entry_of listed.classes k.event =
-    entry_line_once format listed.criteria (entry_of listed.classes h.event) (entry_of listed.classes k.event) h.listed.model h.form k.form (sym h.spelled ∙ k.spelled) in
+    let entries : as_entry listed.classes h.event ≡ as_entry listed.classes k.event =
+    entry_line_once format listed.criteria (as_entry listed.classes h.event) (as_entry listed.classes k.event) h.listed.model h.form k.form (sym h.spelled ∙ k.spelled) in
     let same : h.event ≡ k.event =
     event_once listed h.event k.event h.listed (names_class listed survey.history h.event h.may) (names_class listed survey.history k.event k.may) entries in
     h.is ∙ ap (λ (event : Event). of_events format (record { listed = listed; history = survey.history ++ event ∷ [] })) same ∙ sym k.is
@@ -120,7 +120,7 @@ adds_once (of_events format survey) line one other h k =
 pub adds_no_end : (content : Content) (line : List ℕ) (next : Content) → AddsRight content line next → line ≢ end_line
 adds_no_end (of_claims criteria claims) line next h same = claim_line-is_not_end h.claim (sym h.spelled ∙ same)
 adds_no_end (of_events format survey) line next h same =
-    entry_line-is_not_end (entry_of survey.listed.classes h.event) (sym h.spelled ∙ same)
+    entry_line-is_not_end (as_entry survey.listed.classes h.event) (sym h.spelled ∙ same)
 
 pub steps_once : (stage : Stage) (line : List ℕ) (one other : Stage) → Steps stage line one → Steps stage line other → one ≡ other
 steps_once blank line one other h k = h.2 ∙ ap headed (heading_once h.0 k.0 (sym h.1 ∙ k.1)) ∙ sym k.2
@@ -175,7 +175,7 @@ without_last survey before = record { listed = survey.listed; history = before }
 front_events : (format : Format) (survey : Recorded) (before : List Event) (event : Event) → survey.history ≡ before ++ event ∷ [] → AreEvents format survey
     → AreEvents format (without_last survey before)
 front_events format survey before event whole h =
-    let P : Event → Type 0 = λ e. HasEntryForm format survey.listed.criteria (entry_of survey.listed.classes e) in
+    let P : Event → Type 0 = λ e. HasEntryForm format survey.listed.criteria (as_entry survey.listed.classes e) in
     record {
       listed = h.listed;
       legal = front_legal survey.listed before event (subst (λ (events : List Event). IsLegal survey.listed events) whole h.legal);
@@ -185,7 +185,7 @@ front_events format survey before event whole h =
 adds_last : (format : Format) (survey : Recorded) (before : List Event) (event : Event) → survey.history ≡ before ++ event ∷ [] → AreEvents format survey
     → AddsRightEvent format (without_last survey before) (event_line survey.listed.classes event) (of_events format survey)
 adds_last format survey before event whole h =
-    let P : Event → Type 0 = λ e. HasEntryForm format survey.listed.criteria (entry_of survey.listed.classes e) in
+    let P : Event → Type 0 = λ e. HasEntryForm format survey.listed.criteria (as_entry survey.listed.classes e) in
     record {
       event = event;
       listed = h.listed;

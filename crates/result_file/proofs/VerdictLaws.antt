@@ -13,8 +13,8 @@ use Rattle.std.proofs.lemmas.List.{length-map}
 use Rattle.criteria_model.specs.Criteria.{Criteria}
 use Rattle.survey_core.proofs.ShortLemmas.{legal_is_short_lem}
 use Rattle.result_file.specs.Claims.{Claim}
-use Rattle.result_file.specs.declared.places.Place.{Place}
-use Rattle.result_file.specs.declared.places.Place.TheVariants as places
+use Rattle.result_file.specs.declared.progress.Progress.{Progress}
+use Rattle.result_file.specs.declared.progress.Progress.TheVariants as reached
 use Rattle.result_file.specs.declared.verdicts.Part.{Part}
 use Rattle.result_file.specs.declared.verdicts.Part.TheVariants.{Form}
 use Rattle.result_file.specs.declared.verdicts.Checked.{Checked}
@@ -23,7 +23,7 @@ use Rattle.result_file.specs.Bodies.{IsOfWhole}
 use Rattle.result_file.specs.Checked.{Stage, blank, headed, begun, ended, Says, Fails, IsFileOf, IsChecked, IsToldChecked}
 use Rattle.result_file.specs.Contents.{Content, of_claims, of_events, lines_of, body_of, IsRightContent}
 use Rattle.result_file.specs.Events.{event_line}
-use Rattle.result_file.specs.Places.{StandsFor, GoesOn, EndsWhole, EndsAs, HasCome}
+use Rattle.result_file.specs.Progress.{IsAtStage, GoesOn, EndsWhole, EndsAs, HasCome}
 use Rattle.result_file.specs.RightClaims.{AreClaims}
 use Rattle.result_file.specs.Texts.{most_lines, end_line, claim_line}
 
@@ -40,8 +40,8 @@ one_line : (line : List ℕ) → HasNoLineEnd line → All HasNoLineEnd (line �
 one_line line h = All-cons HasNoLineEnd line [] h (All-nil HasNoLineEnd)
 
 -- a whole line that fails
-pub line_checked : (text before now : Option (List ℕ)) (number : ℕ) (place : Place) (new : LinesView) (part : Part) → HasCome text before number place → GivesLine new before now → length new.line ≤ 4096 → ((stage : Stage) → StandsFor place stage → Fails stage new.line part) → IsToldChecked text (Invalid number part)
-line_checked text before now number place new part h g short fails =
+pub line_checked : (text before now : Option (List ℕ)) (number : ℕ) (progress : Progress) (new : LinesView) (part : Part) → HasCome text before number progress → GivesLine new before now → length new.line ≤ 4096 → ((stage : Stage) → IsAtStage progress stage → Fails stage new.line part) → IsToldChecked text (Invalid number part)
+line_checked text before now number progress new part h g short fails =
     for_told text (λ bytes. IsChecked bytes (Invalid number part)) (λ bytes is.
     let t = told_now text before (unlines h.lines) bytes h.told is in
     let u = told_now before now (new.line ++ line_end ∷ []) t.0 g.told t.1 in
@@ -62,8 +62,8 @@ line_checked text before now number place new part h g short fails =
     })
 
 -- a whole line that is right
-pub line_come : (text before now : Option (List ℕ)) (number : ℕ) (place next : Place) (new : LinesView) → HasCome text before number place → GivesLine new before now → ((lines : List (List ℕ)) (stage : Stage) → Says lines stage → StandsFor place stage → GoesOn lines new.line next) → HasCome text now (number + 1) next
-line_come text before now number place next new h g goes =
+pub line_come : (text before now : Option (List ℕ)) (number : ℕ) (progress next : Progress) (new : LinesView) → HasCome text before number progress → GivesLine new before now → ((lines : List (List ℕ)) (stage : Stage) → Says lines stage → IsAtStage progress stage → GoesOn lines new.line next) → HasCome text now (number + 1) next
+line_come text before now number progress next new h g goes =
     let go = goes h.lines h.stage h.says h.stands in
     let whole : unlines (h.lines ++ new.line ∷ []) ≡ unlines h.lines ++ (new.line ++ line_end ∷ []) =
     sym (append-nil (unlines (h.lines ++ new.line ∷ []))) ∙ unlines-push h.lines new.line [] in
@@ -124,8 +124,8 @@ ends_checked ReadFault bytes piece lines stage number whole unbroken one short s
 ends_checked NoMemory bytes piece lines stage number whole unbroken one short says count h = absurd h
 
 -- the end of the text, after a piece of a line
-piece_checked : (text before now : Option (List ℕ)) (number : ℕ) (place : Place) (piece : List ℕ) (verdict : Checked) → HasCome text before number place → before ≡ prepend_known piece now → IsAtEnd now → HasNoLineEnd piece → length piece ≤ 4096 → ((stage : Stage) → StandsFor place stage → EndsAs stage piece number verdict) → IsToldChecked text verdict
-piece_checked text before now number place piece verdict h told at_end one short ends =
+piece_checked : (text before now : Option (List ℕ)) (number : ℕ) (progress : Progress) (piece : List ℕ) (verdict : Checked) → HasCome text before number progress → before ≡ prepend_known piece now → IsAtEnd now → HasNoLineEnd piece → length piece ≤ 4096 → ((stage : Stage) → IsAtStage progress stage → EndsAs stage piece number verdict) → IsToldChecked text verdict
+piece_checked text before now number progress piece verdict h told at_end one short ends =
     for_told text (λ bytes. IsChecked bytes verdict) (λ bytes is.
     let t = told_now text before (unlines h.lines) bytes h.told is in
     let u = told_now before now piece t.0 told t.1 in
@@ -133,17 +133,17 @@ piece_checked text before now number place piece verdict h told at_end one short
     let rest : t.0 ≡ piece = u.2 ∙ ap (λ (p : List ℕ). piece ++ p) none ∙ append-nil piece in
     ends_checked verdict bytes piece h.lines h.stage number (t.2 ∙ ap (λ (p : List ℕ). unlines h.lines ++ p) rest) h.unbroken one short h.says h.number (ends h.stage h.stands))
 
-pub end_with_piece : (text before now : Option (List ℕ)) (number : ℕ) (place : Place) (new : LinesView) (verdict : Checked) → HasCome text before number place → GivesPiece new before now → length new.line ≤ 4096 → ((stage : Stage) → StandsFor place stage → EndsAs stage new.line number verdict) → IsToldChecked text verdict
-end_with_piece text before now number place new verdict h g short ends =
-    piece_checked text before now number place new.line verdict h g.told g.ended g.unbroken short ends
+pub end_with_piece : (text before now : Option (List ℕ)) (number : ℕ) (progress : Progress) (new : LinesView) (verdict : Checked) → HasCome text before number progress → GivesPiece new before now → length new.line ≤ 4096 → ((stage : Stage) → IsAtStage progress stage → EndsAs stage new.line number verdict) → IsToldChecked text verdict
+end_with_piece text before now number progress new verdict h g short ends =
+    piece_checked text before now number progress new.line verdict h g.told g.ended g.unbroken short ends
 
-pub end_without_piece : (text before now : Option (List ℕ)) (number : ℕ) (place : Place) (new : LinesView) (verdict : Checked) → HasCome text before number place → GivesEnd new before now → ((stage : Stage) → StandsFor place stage → EndsAs stage new.line number verdict) → IsToldChecked text verdict
-end_without_piece text before now number place new verdict h g ends =
-    piece_checked text before now number place [] verdict h (sym g.same ∙ sym (prepend_known-nil now)) g.ended (All-nil _) (omega arith) (rw g.no_line at ends)
+pub end_without_piece : (text before now : Option (List ℕ)) (number : ℕ) (progress : Progress) (new : LinesView) (verdict : Checked) → HasCome text before number progress → GivesEnd new before now → ((stage : Stage) → IsAtStage progress stage → EndsAs stage new.line number verdict) → IsToldChecked text verdict
+end_without_piece text before now number progress new verdict h g ends =
+    piece_checked text before now number progress [] verdict h (sym g.same ∙ sym (prepend_known-nil now)) g.ended (All-nil _) (omega arith) (rw g.no_line at ends)
 
 -- more bytes than the longest line's without a line end
-pub long_checked : (text before now left : Option (List ℕ)) (number : ℕ) (place : Place) (new : LinesView) → HasCome text before number place → GivesTooLong new before now → now ≡ prepend_known new.kept left → new.longest ≡ 4096 → IsToldChecked text (Invalid number Form)
-long_checked text before now left number place new h g ahead longest =
+pub long_checked : (text before now left : Option (List ℕ)) (number : ℕ) (progress : Progress) (new : LinesView) → HasCome text before number progress → GivesTooLong new before now → now ≡ prepend_known new.kept left → new.longest ≡ 4096 → IsToldChecked text (Invalid number Form)
+long_checked text before now left number progress new h g ahead longest =
     for_told text (λ bytes. IsChecked bytes (Invalid number Form)) (λ bytes is.
     let t = told_now text before (unlines h.lines) bytes h.told is in
     let u = told_now before left new.kept t.0 (sym g.same ∙ ahead) t.1 in
@@ -187,11 +187,11 @@ few_lines lines (headed kind) h = rw h (omega arith)
 few_lines lines (begun content) h = rw h.1 (omega (arith, few_in_body content h.0))
 few_lines lines (ended content) h = rw h.1 (omega (arith, few_in_body content h.0, length-append (lines_of content) (end_line ∷ [])))
 
-pub few_come : (text now : Option (List ℕ)) (number : ℕ) (place : Place) → HasCome text now number place → number ≤ 131076
-few_come text now number place h = omega (arith, few_lines h.lines h.stage h.says, h.number)
+pub few_come : (text now : Option (List ℕ)) (number : ℕ) (progress : Progress) → HasCome text now number progress → number ≤ 131076
+few_come text now number progress h = omega (arith, few_lines h.lines h.stage h.says, h.number)
 
 -- no line yet
-pub none_come : (lines : LinesView) (left : Option (List ℕ)) → lines.kept ≡ [] → HasCome left (ahead lines left) 1 places.Blank
+pub none_come : (lines : LinesView) (left : Option (List ℕ)) → lines.kept ≡ [] → HasCome left (ahead lines left) 1 reached.Blank
 none_come lines left none = record {
   lines = [];
   stage = blank;

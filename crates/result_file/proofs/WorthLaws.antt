@@ -1,6 +1,5 @@
 -- What a valid file is worth.
 use Rattle.std.proofs.Common.{ℕ, List, [], ◌∷◌, append-nil, subst, refl, arith}
-use Rattle.std.specs.Prelude.{Option, Some, None, IfSome}
 use Rattle.criteria_model.specs.declared.pairs.Pair.{Pair}
 use Rattle.criteria_model.specs.declared.pairs.Answer.{Answer}
 use Rattle.criteria_model.specs.declared.pairs.Side.{Side}
@@ -15,13 +14,13 @@ use Rattle.survey_core.proofs.RankingLemmas.{answers_are_satisfiable_lem, elimin
 use Rattle.result_file.specs.declared.entries.Format.{Format}
 use Rattle.result_file.specs.declared.verdicts.Checked.{Checked}
 use Rattle.result_file.specs.declared.verdicts.Checked.TheVariants.{Valid, ValidComplete}
-use Rattle.result_file.specs.Checked.{IsChecked, IsToldChecked}
+use Rattle.result_file.specs.Checked.{IsChecked}
 use Rattle.result_file.specs.Claims.{Claim, eliminated, answers_of}
 use Rattle.result_file.specs.Contents.{Content, of_claims, of_events, IsRightContent, IsCompleteContent}
 use Rattle.result_file.specs.RightClaims.{AreClaims}
 use Rattle.result_file.specs.RightEvents.{AreEvents}
 use Rattle.result_file.proofs.OneVerdict.{one_content_lem}
-use Rattle.result_file.specs.Worth.{RanksReplicas, ClaimsAreRanked, EventsAreRanked, EliminatedAreRanked, SettlesAll, IsWorth}
+use Rattle.result_file.specs.Worth.{RanksReplicas, ClaimsAreRanked, EventsAreRanked, EliminationsAreSound, SettlesAll, IsWorth}
 
 -- answers that rank a pair rank its replicas: a pair is the class at the only place of the list of it alone
 ranks_replicas : (criteria : Criteria) (answers : List Answer) (pair : Pair) (side : Side) → IsRanked criteria.levels answers pair side
@@ -48,7 +47,7 @@ events_are_ranked format survey h before worker place verdict combination after 
     ranks_replicas survey.listed.criteria (committed survey.listed.classes before) pair verdict
     (eliminated_are_ranked_lem survey.listed survey.history before after worker place verdict combination pair h.legal is at)
 
-eliminated_are_ranked : (content : Content) → IsRightContent content → EliminatedAreRanked content
+eliminated_are_ranked : (content : Content) → IsRightContent content → EliminationsAreSound content
 eliminated_are_ranked (of_claims criteria claims) h = claims_are_ranked criteria claims h
 eliminated_are_ranked (of_events format survey) h = events_are_ranked format survey h
 
@@ -67,7 +66,3 @@ worth text ValidComplete checked = (
   λ content file. subst SettlesAll (one_content_lem text checked.0 content checked.1 file) (settles checked.0 checked.1.right checked.2),
 )
 worth text verdict checked = tt
-
-pub told_worth : (text : Option (List ℕ)) (verdict : Checked) → IsToldChecked text verdict → IfSome text (λ bytes. IsWorth bytes verdict)
-told_worth None verdict checked = tt
-told_worth (Some bytes) verdict checked = worth bytes verdict checked

@@ -1,7 +1,7 @@
 -- Checked files: which bytes are valid, and what is wrong with the others. A file has a heading, a model, claims or
 -- events, and an end. It is told by what its lines are, whatever reads them.
 use Rattle.std.specs.Prelude.{◌≡◌, ◌≢◌, ◌⊎◌, ℕ, ◌+◌, ◌<◌, ◌≤◌, List, [], ◌∷◌, ◌++◌, length, All, None, Option, IfSome}
-use Rattle.edges.specs.Line.{HasNoLineEnd, first_line, unlines}
+use Rattle.edges.specs.Line.{HasNoLineEnd, Splits, first_line, unlines}
 use Rattle.criteria_model.specs.Criteria.{Criteria}
 use Rattle.criteria_model.specs.Faults.{model_fault}
 use Rattle.result_file.specs.declared.entries.Entry.{Entry}
@@ -54,11 +54,6 @@ Fails (begun content) line Form = (line ≢ end_line) × HasNoForm content line
 Fails (begun content) line part = HasWrongPart content line part
 Fails (ended content) line Form = Unit {0}
 Fails _ line _ = ⊥
-
--- a text is these lines, each with its line end, and then the rest
-pub record Splits (text : List ℕ) (lines : List (List ℕ)) (rest : List ℕ) : Type 0 where
-  pub whole : text ≡ unlines lines ++ rest
-  pub unbroken : All HasNoLineEnd lines
 
 -- a whole line of at most the longest length comes next, and fails so
 pub record NextLineFails (stage : Stage) (rest : List ℕ) (part : Part) : Type 0 where

@@ -12,21 +12,21 @@ use Rattle.result_file.specs.declared.entries.Entry.TheVariants.{Eliminate, Issu
 use Rattle.result_file.specs.Texts.{entry_line}
 
 -- the pair at a place of the class list; an event of a legal history never has another place
-abbrev pub pair_at : List Pair → ℕ → Pair
-pair_at classes place = option_map_or (λ pair. pair) (class_at classes place) (record { left = []; right = [] })
+abbrev pub pair_at_place : List Pair → ℕ → Pair
+pair_at_place classes place = option_map_or (λ pair. pair) (class_at classes place) (record { left = []; right = [] })
 
 -- what the line of an event says: of its class the pair, in place of the place
-abbrev pub entry_of : List Pair → Event → Entry
-entry_of classes (events.Eliminate worker place verdict combination) =
-    Eliminate (record { worker = worker; pair = pair_at classes place; verdict = verdict; combination = combination })
-entry_of classes (events.Issue desk place plus minus) = Issue desk (pair_at classes place) plus minus
-entry_of classes (events.Commit desk question side plus minus point) = Commit desk question side plus minus point
-entry_of classes (events.Close desk question) = Close desk question
-entry_of classes (events.Withdraw desk answer) = Withdraw desk answer
+abbrev pub as_entry : List Pair → Event → Entry
+as_entry classes (events.Eliminate worker place verdict combination) =
+    Eliminate (record { worker = worker; pair = pair_at_place classes place; verdict = verdict; combination = combination })
+as_entry classes (events.Issue desk place plus minus) = Issue desk (pair_at_place classes place) plus minus
+as_entry classes (events.Commit desk question side plus minus point) = Commit desk question side plus minus point
+as_entry classes (events.Close desk question) = Close desk question
+as_entry classes (events.Withdraw desk answer) = Withdraw desk answer
 
 -- the line of an event
 abbrev pub event_line : List Pair → Event → List ℕ
-event_line classes event = entry_line (entry_of classes event)
+event_line classes event = entry_line (as_entry classes event)
 
 -- where an event names a class by a place, a class has the place
 abbrev pub NamesClass : Listed → Event → Type 0
@@ -37,4 +37,4 @@ NamesClass listed _ = Unit {0}
 -- the entry tells this event
 pub record Tells (listed : Listed) (entry : Entry) (event : Event) : Type 0 where
   pub class : NamesClass listed event
-  pub told : entry ≡ entry_of listed.classes event
+  pub told : entry ≡ as_entry listed.classes event

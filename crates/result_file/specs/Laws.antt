@@ -4,6 +4,7 @@ use Rattle.result_file.specs.declared.verdicts.Checked.{Checked}
 use Rattle.result_file.specs.declared.verdicts.Checked.TheVariants.{ReadFault, NoMemory}
 use Rattle.result_file.specs.Checked.{IsFileOf, IsChecked}
 use Rattle.result_file.specs.Contents.{Content}
+use Rattle.result_file.specs.Worth.{IsWorth}
 
 -- a text is the file of one content at most
 abbrev pub OneContent : Type 0
@@ -19,3 +20,7 @@ IsOnText _ = Unit {0}
 abbrev pub OneVerdict : Type 0
 OneVerdict =
     (text : List ℕ) (one other : Checked) → IsOnText one → IsOnText other → IsChecked text one → IsChecked text other → one ≡ other
+
+-- a text is worth each verdict that it deserves
+abbrev pub CheckedIsWorth : Type 0
+CheckedIsWorth = (text : List ℕ) (verdict : Checked) → IsChecked text verdict → IsWorth text verdict

@@ -13,7 +13,7 @@ pub mod Reading
 pub mod Eliminations
 pub mod Kept
 pub mod Bodies
-pub mod Places
+pub mod Progress
 pub mod Stops
 pub mod Verdicts
 pub mod Words

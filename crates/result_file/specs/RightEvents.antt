@@ -14,7 +14,7 @@ use Rattle.result_file.specs.declared.entries.Entry.TheVariants.{Eliminate, Issu
 use Rattle.result_file.specs.declared.verdicts.Part.{Part}
 use Rattle.result_file.specs.declared.verdicts.Part.TheVariants.{Form, Limit, Class}
 use Rattle.result_file.specs.Entries.{HasEntryForm}
-use Rattle.result_file.specs.Events.{entry_of, Tells}
+use Rattle.result_file.specs.Events.{as_entry, Tells}
 use Rattle.result_file.specs.Parts.{part_of_broken}
 use Rattle.result_file.specs.Texts.{most_lines}
 
@@ -23,7 +23,7 @@ use Rattle.result_file.specs.Texts.{most_lines}
 pub record AreEvents (format : Format) (survey : Recorded) : Type 0 where
   pub listed : IsListed survey.listed
   pub legal : IsLegal survey.listed survey.history
-  pub forms : All (λ event. HasEntryForm format survey.listed.criteria (entry_of survey.listed.classes event)) survey.history
+  pub forms : All (λ event. HasEntryForm format survey.listed.criteria (as_entry survey.listed.classes event)) survey.history
 
 -- the pair of an Eliminate or an Issue isn't a class
 abbrev pub NamesNoClass : Criteria → Entry → Type 0

@@ -1,14 +1,8 @@
 -- What a verdict says of the source that a file came from.
-use Rattle.std.specs.Prelude.{◌≡◌, ℕ, List, Option}
-use Rattle.edges.specs.Faults.{HasRisen}
+use Rattle.std.specs.Prelude.{ℕ, List, Option}
 use Rattle.edges.specs.Told.{IsAtEnd}
 use Rattle.result_file.specs.declared.verdicts.Checked.{Checked}
-use Rattle.result_file.specs.declared.verdicts.Checked.TheVariants.{Valid, ValidComplete, ReadFault}
-
--- the count of faults rose at a fault, and stayed at every other verdict
-abbrev pub CountsFault : Checked → ℕ → ℕ → Type 0
-CountsFault ReadFault before now = HasRisen before now
-CountsFault _ before now = now ≡ before
+use Rattle.result_file.specs.declared.verdicts.Checked.TheVariants.{Valid, ValidComplete}
 
 -- a file that is valid was read to its end
 abbrev pub EndsInput : Checked → Option (List ℕ) → Type 0

@@ -41,9 +41,9 @@ EventsAreRanked survey =
     → RanksReplicas survey.listed.criteria.levels (committed survey.listed.classes before) pair verdict
 
 -- each eliminated pair is ranked so, with its replicas, by every value vector that meets the answers standing at its line
-abbrev pub EliminatedAreRanked : Content → Type 0
-EliminatedAreRanked (of_claims criteria claims) = ClaimsAreRanked criteria claims
-EliminatedAreRanked (of_events format survey) = EventsAreRanked survey
+abbrev pub EliminationsAreSound : Content → Type 0
+EliminationsAreSound (of_claims criteria claims) = ClaimsAreRanked criteria claims
+EliminationsAreSound (of_events format survey) = EventsAreRanked survey
 
 -- the answers standing at the end are satisfiable, and every two undominated alternatives of a degree within the limit
 -- have the ranking of their class, by an event that stands, for every value vector that meets the answers
@@ -58,7 +58,7 @@ SettlesAll (of_events format survey) = IsSettled survey
 
 -- whatever the text contains, each pair that it eliminates is ranked so
 abbrev pub IsRankedFile : List ℕ → Type 0
-IsRankedFile text = (content : Content) → IsFileOf content text → EliminatedAreRanked content
+IsRankedFile text = (content : Content) → IsFileOf content text → EliminationsAreSound content
 
 -- whatever the text contains is a survey that settles every pair
 abbrev pub IsSettledFile : List ℕ → Type 0

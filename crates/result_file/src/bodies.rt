@@ -5,7 +5,6 @@ ghost use Rattle.result_file.specs.Checked.{begun};
 ghost use Rattle.result_file.specs.Contents.{Content};
 ghost use Rattle.result_file.specs.Stops.{StopsAt};
 ghost use Rattle.result_file.specs.Texts.{end_line};
-ghost use Rattle.result_file.specs.Verdicts.{CountsFault};
 
 use crate::claims::Claims;
 use crate::kinds::Kind;
@@ -52,7 +51,7 @@ impl Body {
     /// What the file is where it ends here.
     pub(crate) fn verdict(&self) -> Checked
         ensures verdict { (content : Content) → Keeps self.now content → IsOfWhole content result }
-        ensures quiet { (faults : ℕ) → CountsFault result faults faults }
+        ensures on_text { result ≢ Checked.ReadFault }
     {
         match self {
             Body::Claims(_) => Checked::Valid,

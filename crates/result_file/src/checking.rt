@@ -1,14 +1,13 @@
 ghost use Rattle.std.specs.Prelude.{◌≡◌, ℕ, ◌+◌, ◌<◌, ◌≤◌, List, [], Option, IfSome, IfOk, IfErr, OnOk};
-ghost use Rattle.edges.specs.Faults.{HasRisen};
+ghost use Rattle.edges.specs.Faults.{CountsFaults};
 ghost use Rattle.edges.specs.Lines.{ahead};
 ghost use Rattle.edges.specs.Told.{IsAtEnd};
 ghost use Rattle.result_file.specs.Texts.{longest_line};
 ghost use Rattle.result_file.specs.Checked.{IsToldChecked};
-ghost use Rattle.result_file.specs.Places.{HasCome};
-ghost use Rattle.result_file.specs.Verdicts.{CountsFault, EndsInput};
-ghost use Rattle.result_file.specs.Worth.{IsWorth};
+ghost use Rattle.result_file.specs.Progress.{HasCome};
+ghost use Rattle.result_file.specs.Verdicts.{EndsInput};
 
-use crate::places::Place;
+use crate::progress::Progress;
 use crate::stops::Stop;
 use crate::verdicts::{Checked, Part};
 use edges::{LineGot, Lines, Source};
@@ -20,8 +19,7 @@ const LONGEST_LINE: u32 = 4096;
 /// Checks the file that `source` holds.
 pub fn check_result<S: Source>(alloc: Global, source: &mut S) -> Checked
     ensures checked { IsToldChecked (S.left source.old) result }
-    ensures worth { IfSome (S.left source.old) (λ text. IsWorth text result) }
-    ensures faults { CountsFault result (S.faults source.old) (S.faults source.new) }
+    ensures faults { CountsFaults (result ≡ Checked.ReadFault) (S.faults source.old) (S.faults source.new) }
     ensures ended { EndsInput result (S.left source.new) }
 {
     match Lines::reserve(alloc, LONGEST_LINE) {
@@ -35,15 +33,15 @@ fn check_lines<S: Source>(alloc: Global, lines: Lines, source: &mut S) -> Checke
     requires longest { lines.longest ≡ longest_line }
     requires none_kept { lines.kept ≡ [] }
     ensures checked { IsToldChecked (S.left source.old) result }
-    ensures faults { CountsFault result (S.faults source.old) (S.faults source.new) }
+    ensures faults { CountsFaults (result ≡ Checked.ReadFault) (S.faults source.old) (S.faults source.new) }
     ensures ended { EndsInput result (S.left source.new) }
 {
     let mut lines = lines;
-    let mut place = Place::Blank;
+    let mut progress = Progress::Blank;
     let mut number = 1;
     loop {
-        match next_place(alloc, &mut lines, source, place, number) {
-            Ok(next) => place = next,
+        match next_progress(alloc, &mut lines, source, progress, number) {
+            Ok(next) => progress = next,
             Err(verdict) => return verdict,
         }
         number += 1;
@@ -51,31 +49,31 @@ fn check_lines<S: Source>(alloc: Global, lines: Lines, source: &mut S) -> Checke
 }
 
 /// Goes on by one line, of that number, or gives the verdict on the file.
-fn next_place<S: Source>(
+fn next_progress<S: Source>(
     alloc: Global,
     lines: &mut Lines,
     source: &mut S,
-    place: Place,
+    progress: Progress,
     number: u32,
-) -> Result<Place, Checked>
+) -> Result<Progress, Checked>
     requires { lines.old.longest ≡ longest_line }
     ensures next { IfOk result (λ next. (text : Option (List ℕ)) →
-        HasCome text (ahead lines.old (S.left source.old)) number place → HasCome text (ahead lines.new (S.left source.new)) (number + 1) next) }
+        HasCome text (ahead lines.old (S.left source.old)) number progress → HasCome text (ahead lines.new (S.left source.new)) (number + 1) next) }
     ensures verdict { IfErr result (λ verdict. (text : Option (List ℕ)) →
-        HasCome text (ahead lines.old (S.left source.old)) number place → IsToldChecked text verdict) }
+        HasCome text (ahead lines.old (S.left source.old)) number progress → IsToldChecked text verdict) }
     ensures quiet { OnOk result (S.faults source.new ≡ S.faults source.old) }
-    ensures faults { IfErr result (λ verdict. CountsFault verdict (S.faults source.old) (S.faults source.new)) }
+    ensures faults { IfErr result (λ verdict. CountsFaults (verdict ≡ Checked.ReadFault) (S.faults source.old) (S.faults source.new)) }
     ensures ended { IfErr result (λ verdict. EndsInput verdict (S.left source.new)) }
     ensures longest { lines.new.longest ≡ lines.old.longest }
 {
     match lines.next_line(source) {
-        LineGot::Line => match place.next(alloc, lines.line()) {
+        LineGot::Line => match progress.next(alloc, lines.line()) {
             Ok(next) => Ok(next),
             Err(Stop::Wrong(part)) => Err(Checked::Invalid { line: number, part }),
             Err(Stop::NoMemory) => Err(Checked::NoMemory),
         },
-        LineGot::Piece => Err(place.ends(lines.line(), number)),
-        LineGot::End => Err(place.ends(lines.line(), number)),
+        LineGot::Piece => Err(progress.ends(lines.line(), number)),
+        LineGot::End => Err(progress.ends(lines.line(), number)),
         LineGot::TooLong => Err(Checked::Invalid {
             line: number,
             part: Part::Form,

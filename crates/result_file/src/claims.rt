@@ -12,7 +12,7 @@ ghost use Rattle.result_file.specs.Kept.{KeepsClaims, AddsClaim, AcceptsClaim};
 ghost use Rattle.result_file.specs.Stops.{StopsAt, Refuses};
 
 use crate::eliminations::{Elimination, elimination_of};
-use crate::lines::answer_of;
+use crate::line_fields::answer_of;
 use crate::stops::Stop;
 use crate::verdicts::Part;
 use answer_rows::{Answer, Answers};

@@ -1,10 +1,10 @@
 ghost use Rattle.std.specs.Prelude.{◌≡◌, None, Some, take, MatchOption, IfSome};
 ghost use Rattle.text_fields.specs.Spelling.{IsCertificate};
 ghost use Rattle.farkas_check.specs.Cited.{AreCites};
-ghost use Rattle.result_file.specs.Reading.{elimination_at};
+ghost use Rattle.result_file.specs.Reading.{read_elimination};
 ghost use Rattle.result_file.specs.Eliminations.{Reads};
 
-use crate::lines::{combination, ranking};
+use crate::line_fields::{combination, ranking};
 use criteria_model::{Pair, Side};
 use farkas_check::{Cite, Cites, Combination};
 use text_fields::Fields;
@@ -29,9 +29,9 @@ pub struct Elimination {
 }
 
 /// The elimination that a line spells, for so many criteria and increments.
-#[tactic(auto, unfolding(crate::specs::Reading::elimination_at))]
+#[tactic(auto, unfolding(crate::specs::Reading::read_elimination))]
 pub(crate) fn elimination_of(line: &[u8], criteria: usize, increments: usize) -> Option<Elimination>
-    ensures { Reads result (elimination_at criteria increments line.now) }
+    ensures { Reads result (read_elimination criteria increments line.now) }
 {
     let mut fields = Fields::of(line);
     fields.word(b"eliminate ")?;

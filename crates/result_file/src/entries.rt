@@ -3,12 +3,12 @@ ghost use Rattle.std.specs.Prelude.{◌≡◌, length, int_le, pos};
 ghost use Rattle.std.specs.List.{list_all};
 ghost use Rattle.criteria_model.specs.Criteria.{Criteria, IsModel};
 ghost use Rattle.criteria_model.specs.Worth.{increments as increments_of};
-ghost use Rattle.text_fields.specs.Reading.{Gives};
+ghost use Rattle.text_fields.specs.Reading.{ReadsAs};
 ghost use Rattle.result_file.specs.Entries.{ReadsEntry};
-ghost use Rattle.result_file.specs.Reading.{desk_at, numbers_at, vector_at, vectors_at, issue_at, commit_at, close_at, withdraw_at, step_at};
+ghost use Rattle.result_file.specs.Reading.{read_desk, read_numbers, read_vector, read_vectors, read_issue, read_commit, read_close, read_withdraw, read_step};
 
 use crate::eliminations::{Elimination, elimination_of};
-use crate::lines::{pair, side, weights};
+use crate::line_fields::{pair, side, weights};
 use criteria_model::{Pair, Side, Vector};
 use text_fields::Fields;
 
@@ -76,9 +76,9 @@ pub(crate) fn entry_of(
 }
 
 /// The entry that a line spells, if it is no elimination.
-#[tactic(auto, unfolding(crate::specs::Reading::step_at))]
+#[tactic(auto, unfolding(crate::specs::Reading::read_step))]
 fn step_of(line: &[u8], format: Format, criteria: usize, increments: usize) -> Option<Entry>
-    ensures { result ≡ step_at format criteria increments line.now }
+    ensures { result ≡ read_step format criteria increments line.now }
 {
     if let Some(issue) = issue_of(line, criteria, increments) {
         return Some(issue);
@@ -96,9 +96,9 @@ fn step_of(line: &[u8], format: Format, criteria: usize, increments: usize) -> O
 }
 
 /// The entry that an issue line spells.
-#[tactic(auto, unfolding(crate::specs::Reading::issue_at))]
+#[tactic(auto, unfolding(crate::specs::Reading::read_issue))]
 fn issue_of(line: &[u8], criteria: usize, increments: usize) -> Option<Entry>
-    ensures { result ≡ issue_at criteria increments line.now }
+    ensures { result ≡ read_issue criteria increments line.now }
 {
     let mut fields = Fields::of(line);
     fields.word(b"issue ")?;
@@ -119,9 +119,9 @@ fn issue_of(line: &[u8], criteria: usize, increments: usize) -> Option<Entry>
 }
 
 /// The entry that a commit line spells.
-#[tactic(auto, unfolding(crate::specs::Reading::commit_at))]
+#[tactic(auto, unfolding(crate::specs::Reading::read_commit))]
 fn commit_of(line: &[u8], increments: usize) -> Option<Entry>
-    ensures { result ≡ commit_at increments line.now }
+    ensures { result ≡ read_commit increments line.now }
 {
     let mut fields = Fields::of(line);
     fields.word(b"commit ")?;
@@ -146,9 +146,9 @@ fn commit_of(line: &[u8], increments: usize) -> Option<Entry>
 }
 
 /// The entry that a close line spells.
-#[tactic(auto, unfolding(crate::specs::Reading::close_at))]
+#[tactic(auto, unfolding(crate::specs::Reading::read_close))]
 fn close_of(line: &[u8]) -> Option<Entry>
-    ensures { result ≡ close_at line.now }
+    ensures { result ≡ read_close line.now }
 {
     let mut fields = Fields::of(line);
     fields.word(b"close ")?;
@@ -160,9 +160,9 @@ fn close_of(line: &[u8]) -> Option<Entry>
 }
 
 /// The entry that a withdraw line spells.
-#[tactic(auto, unfolding(crate::specs::Reading::withdraw_at))]
+#[tactic(auto, unfolding(crate::specs::Reading::read_withdraw))]
 fn withdraw_of(line: &[u8]) -> Option<Entry>
-    ensures { result ≡ withdraw_at line.now }
+    ensures { result ≡ read_withdraw line.now }
 {
     let mut fields = Fields::of(line);
     fields.word(b"withdraw ")?;
@@ -174,9 +174,9 @@ fn withdraw_of(line: &[u8]) -> Option<Entry>
 }
 
 /// Reads a desk.
-#[tactic(auto, unfolding(crate::specs::Reading::desk_at))]
+#[tactic(auto, unfolding(crate::specs::Reading::read_desk))]
 fn desk(fields: &mut Fields<'_>) -> Option<u8>
-    ensures { Gives result fields.new (desk_at fields.old) }
+    ensures { ReadsAs result fields.new (read_desk fields.old) }
 {
     let desk = fields.small_number(MOST_DESKS)?;
     if desk == 0 {
@@ -186,9 +186,9 @@ fn desk(fields: &mut Fields<'_>) -> Option<u8>
 }
 
 /// Reads a desk, and the number of a question or of an answer.
-#[tactic(auto, unfolding(crate::specs::Reading::numbers_at))]
+#[tactic(auto, unfolding(crate::specs::Reading::read_numbers))]
 fn numbers(fields: &mut Fields<'_>) -> Option<(u8, u32)>
-    ensures { Gives result fields.new (numbers_at fields.old) }
+    ensures { ReadsAs result fields.new (read_numbers fields.old) }
 {
     let desk = desk(fields)?;
     fields.word(b" ")?;
@@ -200,9 +200,9 @@ fn numbers(fields: &mut Fields<'_>) -> Option<(u8, u32)>
 }
 
 /// Reads a vector with a positive number for each increment.
-#[tactic(auto, unfolding(crate::specs::Reading::vector_at))]
+#[tactic(auto, unfolding(crate::specs::Reading::read_vector))]
 fn vector(fields: &mut Fields<'_>, increments: usize) -> Option<Vector>
-    ensures { Gives result fields.new (vector_at increments fields.old) }
+    ensures { ReadsAs result fields.new (read_vector increments fields.old) }
 {
     let vector = weights(fields, increments)?;
     if !is_positive(&vector) {
@@ -219,9 +219,9 @@ fn is_positive(vector: &Vector) -> bool
 }
 
 /// Reads the two vectors that open a pair.
-#[tactic(auto, unfolding(crate::specs::Reading::vectors_at))]
+#[tactic(auto, unfolding(crate::specs::Reading::read_vectors))]
 fn vectors(fields: &mut Fields<'_>, increments: usize) -> Option<(Vector, Vector)>
-    ensures { Gives result fields.new (vectors_at increments fields.old) }
+    ensures { ReadsAs result fields.new (read_vectors increments fields.old) }
 {
     let plus = vector(fields, increments)?;
     fields.word(b" ")?;

@@ -1,5 +1,5 @@
 //! Laws of checked files. Each function does nothing; its contract is the law.
-ghost use Rattle.result_file.specs.Laws.{OneContent, OneVerdict};
+ghost use Rattle.result_file.specs.Laws.{CheckedIsWorth, OneContent, OneVerdict};
 
 /// A text is the file of one content at most.
 pub fn one_content()
@@ -9,4 +9,10 @@ pub fn one_content()
 /// A text deserves one verdict at most, a read fault and want of memory apart.
 pub fn one_verdict()
     ensures { OneVerdict }
+{}
+
+/// What a verdict promises of the text that deserves it: of a valid one, that each pair that it eliminates is ranked so;
+/// of a valid and complete one, that its answers rank every pair that needs a question.
+pub fn checked_is_worth()
+    ensures { CheckedIsWorth }
 {}

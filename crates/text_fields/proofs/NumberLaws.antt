@@ -7,7 +7,7 @@ use Rattle.std.proofs.lemmas.Bool.{leb-true, le-leb, cases_eq}
 use Rattle.std.proofs.lemmas.Bool.Decides.{nat_tests}
 use Rattle.std.proofs.lemmas.Option.{cond_some}
 use Rattle.text_fields.specs.Spelling.{is_next, EndsNumber, certificate_limit, IsCertificate}
-use Rattle.text_fields.specs.Reading.{◌>>=◌, digits_after, begins_number, number_at, certificate_at, negated}
+use Rattle.text_fields.specs.Reading.{◌>>=◌, digits_after, begins_number, read_number, read_certificate, negated}
 use Rattle.text_fields.specs.Laws.{IsField}
 use Rattle.text_fields.proofs.Numerals.{digits_after_le}
 
@@ -113,8 +113,8 @@ begins_decimal (suc n) rest lt ends =
     rw h.cells (begins_from h.first (h.others ++ rest) (h.low (omega arith)) h.high)
 
 -- a number that is spelled at the front is read
-pub number_again : (most n : ℕ) (rest : List ℕ) → most < 10 ^ 64 → n ≤ most → EndsNumber rest → number_at most (decimal n ++ rest) ≡ Some (n, rest)
-unfolding number_at Folds
+pub number_again : (most n : ℕ) (rest : List ℕ) → most < 10 ^ 64 → n ≤ most → EndsNumber rest → read_number most (decimal n ++ rest) ≡ Some (n, rest)
+unfolding read_number Folds
 number_again most n rest wide le ends =
     let lt : n < 10 ^ 64 = omega arith in
     let e : digits_after 0 (decimal n ++ rest) ≡ (n, rest) = digits_fold n lt rest ∙ digits_after_ends n rest ends in
@@ -159,8 +159,8 @@ spelled (b ∷ c ∷ text) begins lt =
       | inr other ↦ let no : b == 48 ≡ false = grind (arith, nat_tests) in spelled_digit b (c ∷ text) (rw no at begins) other lt
     ]
 
-pub number_takes : (most : ℕ) (text : List ℕ) (n : ℕ) (rest : List ℕ) → most < 10 ^ 64 → number_at most text ≡ Some (n, rest) → (text ≡ decimal n ++ rest) × (n ≤ most)
-unfolding number_at
+pub number_takes : (most : ℕ) (text : List ℕ) (n : ℕ) (rest : List ℕ) → most < 10 ^ 64 → read_number most text ≡ Some (n, rest) → (text ≡ decimal n ++ rest) × (n ≤ most)
+unfolding read_number
 number_takes most text n rest wide e =
     let t = cond_some (begins_number text && nat_le ((digits_after 0 text).0) most) (digits_after 0 text) (n, rest) e in
     let both = and_true (begins_number text) (nat_le ((digits_after 0 text).0) most) t.0 in
@@ -169,7 +169,7 @@ number_takes most text n rest wide e =
 
 -- ---- fields
 
-pub numbers_field : (most : ℕ) → most < 10 ^ 64 → IsField (number_at most) decimal (λ n. n ≤ most) EndsNumber
+pub numbers_field : (most : ℕ) → most < 10 ^ 64 → IsField (read_number most) decimal (λ n. n ≤ most) EndsNumber
 numbers_field most wide = record {
   takes = λ text n rest e. number_takes most text n rest wide e;
   again = λ n rest le ends. number_again most n rest wide le ends;
@@ -198,22 +198,22 @@ negative_takes text (zero, left) z e le n = absurd cc
 negative_takes text (suc k, left) z e le n =
     subst (IsCertificateAt (45 ∷ text)) (some_is _ _ n) (ap (λ (t : List ℕ). 45 ∷ t) e, omega arith)
 
-certificate_is : (text : List ℕ) (z : ℤ × List ℕ) → certificate_at text ≡ Some z → IsCertificateAt text z
-unfolding certificate_at IsCertificateAt
+certificate_is : (text : List ℕ) (z : ℤ × List ℕ) → read_certificate text ≡ Some z → IsCertificateAt text z
+unfolding read_certificate IsCertificateAt
 certificate_is text z e =
-    elim (is_next 45 text) as (λ v. is_next 45 text ≡ v → cond v (number_at (certificate_limit - 1) (drop 1 text) >>= negated) (number_at (certificate_limit - 1) text >>= λ found. Some (pos found.0, found.1)) ≡ Some z → IsCertificateAt text z) [
+    elim (is_next 45 text) as (λ v. is_next 45 text ≡ v → cond v (read_number (certificate_limit - 1) (drop 1 text) >>= negated) (read_number (certificate_limit - 1) text >>= λ found. Some (pos found.0, found.1)) ≡ Some z → IsCertificateAt text z) [
       | true ↦ λ minus e'.
-          let b = bind_some (number_at (certificate_limit - 1) (drop 1 text)) negated z e' in
+          let b = bind_some (read_number (certificate_limit - 1) (drop 1 text)) negated z e' in
           let t = number_takes (certificate_limit - 1) (drop 1 text) b.0.0 b.0.1 wide_certificate b.1 in
           rw (starts_minus text minus) (negative_takes (drop 1 text) b.0 z t.0 t.1 b.2)
       | false ↦ λ _ e'.
-          let b = bind_some (number_at (certificate_limit - 1) text) (λ found. Some (pos found.0, found.1)) z e' in
+          let b = bind_some (read_number (certificate_limit - 1) text) (λ found. Some (pos found.0, found.1)) z e' in
           let t = number_takes (certificate_limit - 1) text b.0.0 b.0.1 wide_certificate b.1 in
           subst (IsCertificateAt text) (some_is _ _ b.2) (t.0, omega (arith, t.1))
     ] refl e
 
-certificate_again : (z : ℤ) (rest : List ℕ) → IsCertificate z → EndsNumber rest → certificate_at (signed_decimal z ++ rest) ≡ Some (z, rest)
-unfolding certificate_at
+certificate_again : (z : ℤ) (rest : List ℕ) → IsCertificate z → EndsNumber rest → read_certificate (signed_decimal z ++ rest) ≡ Some (z, rest)
+unfolding read_certificate
 certificate_again (pos n) rest h ends =
     let lead = leads n (omega arith) in
     let none : is_next 45 (lead.first ∷ (lead.others ++ rest)) ≡ false = let low = lead.least in grind (arith, nat_tests) in
@@ -223,7 +223,7 @@ certificate_again (pos n) rest h ends =
 certificate_again (negsuc n) rest h ends =
     rw (number_again (certificate_limit - 1) (suc n) rest wide_certificate (omega arith) ends) refl
 
-pub certificates_field : IsField certificate_at signed_decimal IsCertificate EndsNumber
+pub certificates_field : IsField read_certificate signed_decimal IsCertificate EndsNumber
 unfolding IsCertificateAt
 certificates_field = record {
   takes = λ text z rest e. certificate_is text (z, rest) e;

@@ -2,7 +2,7 @@
 use Rattle.std.proofs.Common.{◌≡◌, ℕ, zero, suc, ◌+◌, ◌-◌, ◌*◌, ◌<◌, ◌≤◌, Bool, true, false, cond, List, [], ◌∷◌, length, get_or, drop, refl, sym, subst, Option, Some, None, nat_le, ◌&&◌, ◌∙◌, arith, drop-cons}
 use Rattle.std.proofs.lemmas.Bool.{lt-leb}
 use Rattle.std.specs.Char.{is_ascii_digit}
-use Rattle.text_fields.specs.Reading.{digits_after, begins_number, number_at}
+use Rattle.text_fields.specs.Reading.{digits_after, begins_number, read_number}
 
 -- a digit more
 pub digits_after-drop : (n i : ℕ) (text : List ℕ) → i < length text → is_ascii_digit (get_or text i 0) ≡ true → digits_after n (drop i text) ≡ digits_after (n * 10 + (get_or text i 0 - 48)) (drop (suc i) text)
@@ -30,8 +30,8 @@ both_false true false x e = refl
 both_false false b x e = refl
 
 -- a number above the limit is none
-pub number_at_above : (most : ℕ) (text : List ℕ) → most < (digits_after 0 text).0 → number_at most text ≡ None
-unfolding number_at
+pub number_at_above : (most : ℕ) (text : List ℕ) → most < (digits_after 0 text).0 → read_number most text ≡ None
+unfolding read_number
 number_at_above most text above =
     both_false (begins_number text) (nat_le ((digits_after 0 text).0) most) (Some (digits_after 0 text)) (lt-leb _ _ above)
 

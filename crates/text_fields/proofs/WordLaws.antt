@@ -6,9 +6,9 @@ use Rattle.std.proofs.lemmas.Bool.Decides.{Decides-eqb}
 use Rattle.std.proofs.lemmas.Option.{cond_some}
 use Rattle.std.proofs.lemmas.List.{drop_at}
 use Rattle.text_fields.specs.Laws.{IsField}
-use Rattle.text_fields.specs.Reading.{word_at}
+use Rattle.text_fields.specs.Reading.{read_word}
 
-pub word_field : (word : List ℕ) → IsField (word_at word) (λ _. word) (λ _. Unit {0}) (λ _. Unit {0})
+pub word_field : (word : List ℕ) → IsField (read_word word) (λ _. word) (λ _. Unit {0}) (λ _. Unit {0})
 word_field word = record {
   takes = λ text x rest e.
       let t = cond_some (starts_with nat_eq text word) (tt, drop (length word) text) (x, rest) e in

@@ -2,7 +2,7 @@
 use Rattle.std.specs.Prelude.{◌≡◌, ℕ, ◌<◌, ◌≤◌, List, ◌++◌, Option, Some}
 use Rattle.std.specs.Fmt.{decimal, signed_decimal}
 use Rattle.text_fields.specs.Spelling.{EndsNumber, EndsList, listed, certificate_limit, IsCertificate, IsList}
-use Rattle.text_fields.specs.Reading.{word_at, number_at, certificate_at, list_at}
+use Rattle.text_fields.specs.Reading.{read_word, read_number, read_certificate, read_list}
 
 -- What `item` reads is such a value and is spelled so. Such a value that is spelled at the front is read, where it ends there.
 pub record IsField {X : Type 0} (item : List ℕ → Option (X × List ℕ)) (spell : X → List ℕ) (P : X → Type 0) (Ends : List ℕ → Type 0) : Type 0 where
@@ -11,20 +11,20 @@ pub record IsField {X : Type 0} (item : List ℕ → Option (X × List ℕ)) (sp
 
 -- a word is read where it stands
 abbrev pub WordIsField : Type 0
-WordIsField = (word : List ℕ) → IsField (word_at word) (λ _. word) (λ _. Unit {0}) (λ _. Unit {0})
+WordIsField = (word : List ℕ) → IsField (read_word word) (λ _. word) (λ _. Unit {0}) (λ _. Unit {0})
 
 -- a number up to a limit is read where `{}` wrote it
 abbrev pub NumberIsField : Type 0
-NumberIsField = (most : ℕ) → most < certificate_limit → IsField (number_at most) decimal (λ n. n ≤ most) EndsNumber
+NumberIsField = (most : ℕ) → most < certificate_limit → IsField (read_number most) decimal (λ n. n ≤ most) EndsNumber
 
 -- a certificate number is read where `{}` wrote it
 abbrev pub CertificateIsField : Type 0
-CertificateIsField = IsField certificate_at signed_decimal IsCertificate EndsNumber
+CertificateIsField = IsField read_certificate signed_decimal IsCertificate EndsNumber
 
 -- a list of numbers up to a limit is read where they are joined by commas
 abbrev pub NumbersAreField : Type 0
-NumbersAreField = (most room : ℕ) → most < certificate_limit → IsField (list_at (number_at most) room) (listed decimal) (IsList (λ n. n ≤ most) room) EndsList
+NumbersAreField = (most room : ℕ) → most < certificate_limit → IsField (read_list (read_number most) room) (listed decimal) (IsList (λ n. n ≤ most) room) EndsList
 
 -- a list of certificate numbers is read where they are joined by commas
 abbrev pub CertificatesAreField : Type 0
-CertificatesAreField = (room : ℕ) → IsField (list_at certificate_at room) (listed signed_decimal) (IsList IsCertificate room) EndsList
+CertificatesAreField = (room : ℕ) → IsField (read_list read_certificate room) (listed signed_decimal) (IsList IsCertificate room) EndsList

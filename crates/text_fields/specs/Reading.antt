@@ -11,18 +11,18 @@ None >>= f = None
 (Some x) >>= f = f x
 
 -- what was read and the text that is left are what stands at the front; or nothing was read, since nothing stands there
-abbrev pub Gives : {X : Type 0} → Option X → List ℕ → Option (X × List ℕ) → Type 0
-Gives None left found = found ≡ None
-Gives (Some x) left found = found ≡ Some (x, left)
+abbrev pub ReadsAs : {X : Type 0} → Option X → List ℕ → Option (X × List ℕ) → Type 0
+ReadsAs None left found = found ≡ None
+ReadsAs (Some x) left found = found ≡ Some (x, left)
 
 -- the first `count` cells and the text that is left are the list that stands at the front
-abbrev pub GivesList : {X : Type 0} → Option ℕ → List X → List ℕ → Option (List X × List ℕ) → Type 0
-GivesList None cells left found = found ≡ None
-GivesList (Some count) cells left found = (count ≤ length cells) × (found ≡ Some (take count cells, left))
+abbrev pub ReadsListAs : {X : Type 0} → Option ℕ → List X → List ℕ → Option (List X × List ℕ) → Type 0
+ReadsListAs None cells left found = found ≡ None
+ReadsListAs (Some count) cells left found = (count ≤ length cells) × (found ≡ Some (take count cells, left))
 
 -- the text after this word
-abbrev pub word_at : List ℕ → List ℕ → Option (Unit {0} × List ℕ)
-word_at word text = if starts_with nat_eq text word then Some (tt, drop (length word) text) else None
+abbrev pub read_word : List ℕ → List ℕ → Option (Unit {0} × List ℕ)
+read_word word text = if starts_with nat_eq text word then Some (tt, drop (length word) text) else None
 
 -- the number that n and the digits at the front make together, and the text after them
 abbrev pub digits_after : ℕ → List ℕ → ℕ × List ℕ
@@ -36,8 +36,8 @@ begins_number (first ∷ []) = is_ascii_digit first
 begins_number (first ∷ second ∷ text) = if first == 48 then not (is_ascii_digit second) else is_ascii_digit first
 
 -- a number up to `most` in its one spelling
-unfoldable pub number_at : ℕ → List ℕ → Option (ℕ × List ℕ)
-number_at most text =
+unfoldable pub read_number : ℕ → List ℕ → Option (ℕ × List ℕ)
+read_number most text =
     if begins_number text && nat_le ((digits_after 0 text).0) most then Some (digits_after 0 text) else None
 
 -- a number that isn't 0, turned to its negative
@@ -46,22 +46,22 @@ negated (zero, text) = None
 negated (suc n, text) = Some (negsuc n, text)
 
 -- a certificate number in its one spelling
-unfoldable pub certificate_at : List ℕ → Option (ℤ × List ℕ)
-certificate_at text =
+unfoldable pub read_certificate : List ℕ → Option (ℤ × List ℕ)
+read_certificate text =
     if is_next 45 text
-    then number_at (certificate_limit - 1) (drop 1 text) >>= negated
-    else (number_at (certificate_limit - 1) text >>= λ found. Some (pos found.0, found.1))
+    then read_number (certificate_limit - 1) (drop 1 text) >>= negated
+    else (read_number (certificate_limit - 1) text >>= λ found. Some (pos found.0, found.1))
 
 -- up to `room` further items, each behind a comma
-unfoldable pub more_at : {X : Type 0} → (List ℕ → Option (X × List ℕ)) → ℕ → List ℕ → Option (List X × List ℕ)
-more_at item zero text = Some ([], text)
-more_at item (suc room) text =
+unfoldable pub read_more : {X : Type 0} → (List ℕ → Option (X × List ℕ)) → ℕ → List ℕ → Option (List X × List ℕ)
+read_more item zero text = Some ([], text)
+read_more item (suc room) text =
     if is_next 0x2C text
-    then (item (drop 1 text) >>= λ first. more_at item room first.1 >>= λ others. Some (first.0 ∷ others.0, others.1))
+    then (item (drop 1 text) >>= λ first. read_more item room first.1 >>= λ others. Some (first.0 ∷ others.0, others.1))
     else Some ([], text)
 
 -- up to `room` items joined by commas, and at least one
-unfoldable pub list_at : {X : Type 0} → (List ℕ → Option (X × List ℕ)) → ℕ → List ℕ → Option (List X × List ℕ)
-list_at item zero text = None
-list_at item (suc room) text =
-    item text >>= λ first. more_at item room first.1 >>= λ others. Some (first.0 ∷ others.0, others.1)
+unfoldable pub read_list : {X : Type 0} → (List ℕ → Option (X × List ℕ)) → ℕ → List ℕ → Option (List X × List ℕ)
+read_list item zero text = None
+read_list item (suc room) text =
+    item text >>= λ first. read_more item room first.1 >>= λ others. Some (first.0 ∷ others.0, others.1)

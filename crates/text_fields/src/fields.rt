@@ -1,6 +1,6 @@
 ghost use Rattle.std.specs.Prelude.{◌≡◌, ◌↔◌, ℕ, ◌-◌, ◌^◌, ◌<◌, ◌≤◌, List, [], ◌++◌, length, drop, IsTrue, IfNone, IfSome, if◌then◌else◌};
 ghost use Rattle.text_fields.specs.Spelling.{IsCertificate, is_next};
-ghost use Rattle.text_fields.specs.Reading.{Gives, GivesList, word_at, number_at, certificate_at, list_at};
+ghost use Rattle.text_fields.specs.Reading.{ReadsAs, ReadsListAs, read_word, read_number, read_certificate, read_list};
 
 use crate::digits::digits_at;
 use std::marker::Model;
@@ -42,7 +42,7 @@ impl<'a> Fields<'a> {
 
     /// Reads this word. Where another stands at the front, nothing is read.
     pub fn word(&mut self, word: &[u8]) -> Option<()>
-        ensures exact { Gives result self.new (word_at word.now self.old) }
+        ensures exact { ReadsAs result self.new (read_word word.now self.old) }
         ensures kept { IfNone result (self.new ≡ self.old) }
     {
         self.rest = self.rest.strip_prefix(word)?;
@@ -66,7 +66,7 @@ impl<'a> Fields<'a> {
     /// Reads a number up to `most`.
     fn size(&mut self, most: u128) -> Option<u128>
         requires { most < 2 ^ 96 }
-        ensures exact { Gives result self.new (number_at most self.old) }
+        ensures exact { ReadsAs result self.new (read_number most self.old) }
         ensures limit { IfSome result (λ n. n ≤ most) }
     {
         let (value, len) = digits_at(self.rest, most)?;
@@ -76,7 +76,7 @@ impl<'a> Fields<'a> {
 
     /// Reads a number up to `most`.
     pub fn number(&mut self, most: u32) -> Option<u32>
-        ensures exact { Gives result self.new (number_at most self.old) }
+        ensures exact { ReadsAs result self.new (read_number most self.old) }
         ensures limit { IfSome result (λ n. n ≤ most) }
     {
         let value = self.size(u128::from(most))?;
@@ -84,9 +84,9 @@ impl<'a> Fields<'a> {
     }
 
     /// Reads a certificate number: a whole number below 2^96 in size.
-    #[tactic(auto, unfolding(crate::specs::Reading::certificate_at))]
+    #[tactic(auto, unfolding(crate::specs::Reading::read_certificate))]
     pub fn certificate(&mut self) -> Option<i128>
-        ensures exact { Gives result self.new (certificate_at self.old) }
+        ensures exact { ReadsAs result self.new (read_certificate self.old) }
         ensures limit { IfSome result IsCertificate }
     {
         if self.skip(b'-') {
@@ -104,7 +104,7 @@ impl<'a> Fields<'a> {
     /// and as many as come next or there are cells.
     pub fn numbers(&mut self, most: u32, cells: &mut [u32]) -> Option<usize>
         requires { 0 < length cells.old }
-        ensures exact { GivesList result cells.new self.new (list_at (number_at most) (length cells.old) self.old) }
+        ensures exact { ReadsListAs result cells.new self.new (read_list (read_number most) (length cells.old) self.old) }
     {
         cells[0] = self.number(most)?;
         let mut count = 1;
@@ -117,7 +117,7 @@ impl<'a> Fields<'a> {
 
     /// Reads a number up to `most`.
     pub fn small_number(&mut self, most: u8) -> Option<u8>
-        ensures exact { Gives result self.new (number_at most self.old) }
+        ensures exact { ReadsAs result self.new (read_number most self.old) }
         ensures limit { IfSome result (λ n. n ≤ most) }
     {
         let value = self.size(u128::from(most))?;
@@ -127,7 +127,7 @@ impl<'a> Fields<'a> {
     /// Reads numbers up to `most` as [`Fields::numbers`] does, into cells of a byte.
     pub fn small_numbers(&mut self, most: u8, cells: &mut [u8]) -> Option<usize>
         requires { 0 < length cells.old }
-        ensures exact { GivesList result cells.new self.new (list_at (number_at most) (length cells.old) self.old) }
+        ensures exact { ReadsListAs result cells.new self.new (read_list (read_number most) (length cells.old) self.old) }
     {
         cells[0] = self.small_number(most)?;
         let mut count = 1;
@@ -141,7 +141,7 @@ impl<'a> Fields<'a> {
     /// Reads certificate numbers as [`Fields::numbers`] does.
     pub fn certificates(&mut self, cells: &mut [i128]) -> Option<usize>
         requires { 0 < length cells.old }
-        ensures exact { GivesList result cells.new self.new (list_at certificate_at (length cells.old) self.old) }
+        ensures exact { ReadsListAs result cells.new self.new (read_list read_certificate (length cells.old) self.old) }
     {
         cells[0] = self.certificate()?;
         let mut count = 1;

@@ -1,8 +1,9 @@
-use Rattle.paprika.proofs.StatusLaws.{proved_at_0, settled_at_complete}
+use Rattle.paprika.proofs.StatusLaws.{worth_of_answer, done_where_valid}
 use Rattle.paprika.proofs.command.plain_command.Goals as goal
 
-pub returns-clause-proved : goal.returns-clause-proved
-returns-clause-proved g c = λ is_check zero. proved_at_0 _ _ _ _ _ (c.run.ensures.check is_check) zero
+pub returns-clause-worth : goal.returns-clause-worth
+returns-clause-worth g c = λ is_check. worth_of_answer _ _ _ _ _ (c.run.ensures.check is_check)
 
-pub returns-clause-complete : goal.returns-clause-complete
-returns-clause-complete g c = λ is_check says. settled_at_complete _ _ _ _ _ (c.run.ensures.check is_check) says
+pub returns-clause-done : goal.returns-clause-done
+returns-clause-done g c = λ is_check valid no_read no_write.
+    done_where_valid _ _ _ _ _ _ _ _ _ (c.run.ensures.check is_check) c.run.ensures.read_fault c.run.ensures.write_fault valid no_read no_write

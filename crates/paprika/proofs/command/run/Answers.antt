@@ -7,4 +7,4 @@ pub returns-then-not-is_check-clause-usage : goal.returns-then-not-is_check-clau
 returns-then-not-is_check-clause-usage g c = λ _.
     let empty : c.in-Ok.text.bytes ≡ [] = ap (λ (t : TextView). t.bytes) c.in-Ok.ensures in
     let text : c.add.new.self.bytes ≡ usage_line = c.add.ensures.bytes ∙ rw empty refl in
-    inl (rw text at c.write.ensures)
+    inl (rw text at c.write.ensures.written)

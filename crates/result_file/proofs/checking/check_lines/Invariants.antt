@@ -1,12 +1,12 @@
 use Rattle.std.proofs.Common.{◌≡◌, ◌-◌}
 use Rattle.edges.specs.Lines.{ahead}
-use Rattle.result_file.specs.Places.{HasCome}
+use Rattle.result_file.specs.Progress.{HasCome}
 use Rattle.result_file.proofs.checking.check_lines.Given as goal
 
 abbrev pub invariant-loop-next : goal.invariant-loop-next
 invariant-loop-next g l = record {
   longest : l.lines.longest ≡ 4096;
-  come : HasCome (g.S.Source.left l.fn.source) (ahead l.lines (g.S.Source.left l.source)) l.number l.place;
+  come : HasCome (g.S.Source.left l.fn.source) (ahead l.lines (g.S.Source.left l.source)) l.number l.progress;
   quiet : g.S.Source.faults l.source ≡ g.S.Source.faults l.fn.source;
 }
 

@@ -2,7 +2,7 @@ use Rattle.std.proofs.Common.{◌≡◌, length, Some, sym, ap, subst, ◌∙◌
 use Rattle.std.proofs.lemmas.Result.{on_ok_weaker}
 use Rattle.criteria_model.specs.Criteria.{IsModel}
 use Rattle.criteria_model.specs.Worth.{increments}
-use Rattle.result_file.specs.Reading.{answer_at, elimination_at}
+use Rattle.result_file.specs.Reading.{read_answer, read_elimination}
 use Rattle.result_file.specs.Kept.{KeptClaims}
 use Rattle.result_file.proofs.ClaimLaws.{no_claim_kept, adds_answer, stops_answer, adds_elimination, stops_elimination, weights_len, scale_fits, if_err_weaker}
 use Rattle.result_file.proofs.claims.Claims.add.Goals as goal
@@ -11,7 +11,7 @@ pub returns-in-Some-clause-added : goal.returns-in-Some-clause-added
 returns-in-Some-clause-added c =
     let model : IsModel c.args.self.now.model = subst (λ (k : KeptClaims). IsModel k.model) c.self.view_is c.self.invariant.0 in
     let width : c.self.inside.criteria ≡ length c.args.self.now.model.levels = c.self.invariant.1 ∙ ap (λ (k : KeptClaims). length k.model.levels) c.self.view_is in
-    let spelled : answer_at (length c.args.self.now.model.levels) c.args.line.now ≡ Some c.in-Some.answer = rw (← width) (sym c.in-Some.ensures) in
+    let spelled : read_answer (length c.args.self.now.model.levels) c.args.line.now ≡ Some c.in-Some.answer = rw (← width) (sym c.in-Some.ensures) in
     on_ok_weaker c.add_answer.result
     (λ added criteria claims keeps. adds_answer c.args.self.now c.add_answer.new.self c.args.line.now c.in-Some.answer model spelled criteria claims keeps (added criteria claims keeps))
     c.add_answer.ensures.added
@@ -20,7 +20,7 @@ pub returns-in-Some-clause-failed : goal.returns-in-Some-clause-failed
 returns-in-Some-clause-failed c =
     let model : IsModel c.args.self.now.model = subst (λ (k : KeptClaims). IsModel k.model) c.self.view_is c.self.invariant.0 in
     let width : c.self.inside.criteria ≡ length c.args.self.now.model.levels = c.self.invariant.1 ∙ ap (λ (k : KeptClaims). length k.model.levels) c.self.view_is in
-    let spelled : answer_at (length c.args.self.now.model.levels) c.args.line.now ≡ Some c.in-Some.answer = rw (← width) (sym c.in-Some.ensures) in
+    let spelled : read_answer (length c.args.self.now.model.levels) c.args.line.now ≡ Some c.in-Some.answer = rw (← width) (sym c.in-Some.ensures) in
     if_err_weaker c.add_answer.result _ _
     (λ stop failed criteria claims no_end keeps. stops_answer c.args.self.now c.args.line.now c.in-Some.answer stop model spelled criteria claims keeps (failed criteria claims keeps))
     c.add_answer.ensures.failed
@@ -51,7 +51,7 @@ returns-clause-added c =
     let model : IsModel c.args.self.now.model = subst (λ (k : KeptClaims). IsModel k.model) c.self.view_is c.self.invariant.0 in
     let width : c.self.inside.criteria ≡ length c.args.self.now.model.levels = c.self.invariant.1 ∙ ap (λ (k : KeptClaims). length k.model.levels) c.self.view_is in
     let steps : c.self.inside.increments ≡ increments c.args.self.now.model.levels = c.self.invariant.2 ∙ ap (λ (k : KeptClaims). increments k.model.levels) c.self.view_is in
-    let spelled : elimination_at (length c.args.self.now.model.levels) (increments c.args.self.now.model.levels) c.args.line.now ≡ Some c.in-Some-elimination_of.elimination = rw (← width, ← steps) c.in-Some-elimination_of.ensures.0 in
+    let spelled : read_elimination (length c.args.self.now.model.levels) (increments c.args.self.now.model.levels) c.args.line.now ≡ Some c.in-Some-elimination_of.elimination = rw (← width, ← steps) c.in-Some-elimination_of.ensures.0 in
     on_ok_weaker c.add_elimination.result
     (λ added criteria claims keeps. adds_elimination c.args.self.now c.add_elimination.new.self c.args.line.now c.in-Some-elimination_of.elimination model spelled c.in-Some-elimination_of.ensures.1 criteria claims keeps (added criteria claims keeps))
     c.add_elimination.ensures.added
@@ -61,7 +61,7 @@ returns-clause-failed c =
     let model : IsModel c.args.self.now.model = subst (λ (k : KeptClaims). IsModel k.model) c.self.view_is c.self.invariant.0 in
     let width : c.self.inside.criteria ≡ length c.args.self.now.model.levels = c.self.invariant.1 ∙ ap (λ (k : KeptClaims). length k.model.levels) c.self.view_is in
     let steps : c.self.inside.increments ≡ increments c.args.self.now.model.levels = c.self.invariant.2 ∙ ap (λ (k : KeptClaims). increments k.model.levels) c.self.view_is in
-    let spelled : elimination_at (length c.args.self.now.model.levels) (increments c.args.self.now.model.levels) c.args.line.now ≡ Some c.in-Some-elimination_of.elimination = rw (← width, ← steps) c.in-Some-elimination_of.ensures.0 in
+    let spelled : read_elimination (length c.args.self.now.model.levels) (increments c.args.self.now.model.levels) c.args.line.now ≡ Some c.in-Some-elimination_of.elimination = rw (← width, ← steps) c.in-Some-elimination_of.ensures.0 in
     if_err_weaker c.add_elimination.result _ _
     (λ stop failed criteria claims no_end keeps. stops_elimination c.args.self.now c.args.line.now c.in-Some-elimination_of.elimination stop model spelled c.in-Some-elimination_of.ensures.1 criteria claims keeps (failed criteria claims keeps))
     c.add_elimination.ensures.failed

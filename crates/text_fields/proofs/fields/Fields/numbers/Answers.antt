@@ -1,12 +1,12 @@
 use Rattle.std.proofs.Common.{◌≡◌, true, false, drop, arith}
 use Rattle.text_fields.specs.Spelling.{is_next}
-use Rattle.text_fields.specs.Reading.{number_at}
+use Rattle.text_fields.specs.Reading.{read_number}
 use Rattle.text_fields.proofs.ListSteps.{first_cell, no_first_item, next_cell, no_next_cell, last_cell}
 use Rattle.text_fields.proofs.fields.Fields.numbers.Goals as goal
 
 pub returns-in_err-cells : goal.returns-in_err-cells
 returns-in_err-cells c =
-    rw c.from_residual.ensures (record { exact = no_first_item (number_at c.args.most) _ c.args.self.now c.in_err-cells.ensures.exact })
+    rw c.from_residual.ensures (record { exact = no_first_item (read_number c.args.most) _ c.args.self.now c.in_err-cells.ensures.exact })
 
 pub loop-count-init : goal.loop-count-init
 loop-count-init c = first_cell _ _ _ _ _ c.requires c.in_ok-cells.ensures.exact

@@ -1,10 +1,10 @@
 use Rattle.std.proofs.Common.{◌-◌, length}
-use Rattle.text_fields.specs.Reading.{number_at}
+use Rattle.text_fields.specs.Reading.{read_number}
 use Rattle.text_fields.proofs.ListSteps.{IsFront}
 use Rattle.text_fields.proofs.fields.Fields.numbers.Given as goal
 
 abbrev pub invariant-loop-count : goal.invariant-loop-count
-invariant-loop-count l = IsFront (number_at l.most) (length l.fn.cells) l.fn.self l.cells l.count l.self
+invariant-loop-count l = IsFront (read_number l.most) (length l.fn.cells) l.fn.self l.cells l.count l.self
 
 abbrev pub decreases-loop-count : goal.decreases-loop-count
 decreases-loop-count l = length l.initial.cells - l.count

@@ -1,5 +1,5 @@
 use Rattle.result_file.proofs.StageLaws.{no_model, spelled_model, wrong_model}
-use Rattle.result_file.proofs.places.begin.Goals as goal
+use Rattle.result_file.proofs.progress.begin.Goals as goal
 
 pub returns-in_default-clause-failed : goal.returns-in_default-clause-failed
 returns-in_default-clause-failed c = no_model c.args.line.now c.requires c.in_default.ensures

@@ -3,13 +3,12 @@ ghost use Rattle.std.specs.Prelude.{◌≡◌, ◌≢◌, ◌↔◌, ℕ, ◌≤
 ghost use Rattle.result_file.specs.declared.kinds.Kind.{Kind as FileKind};
 ghost use Rattle.result_file.specs.Texts.{longest_line, model_line, end_line};
 ghost use Rattle.result_file.specs.Checked.{Stage, headed, Says, Fails};
-ghost use Rattle.result_file.specs.Verdicts.{CountsFault};
-ghost use Rattle.result_file.specs.Places.{StandsFor, GoesOn, EndsAs};
+ghost use Rattle.result_file.specs.Progress.{IsAtStage, GoesOn, EndsAs};
 ghost use Rattle.result_file.specs.Stops.{StopsAt};
 
 use crate::bodies::Body;
 use crate::kinds::{Kind, kind_of};
-use crate::lines::model_of;
+use crate::line_fields::model_of;
 use crate::stops::Stop;
 use crate::verdicts::{Checked, Part};
 use criteria_model::Model;
@@ -20,7 +19,7 @@ const END_LINE: &[u8] = b"end";
 
 /// How far the right lines of a file have come.
 #[derive(Drop)]
-pub(crate) enum Place {
+pub(crate) enum Progress {
     /// No line yet.
     Blank,
     /// The heading.
@@ -31,42 +30,42 @@ pub(crate) enum Place {
     Ended(Body),
 }
 
-impl Place {
-    /// The place after one more line, or what stops the check there.
-    pub(crate) fn next(self, alloc: Global, line: &[u8]) -> Result<Place, Stop>
+impl Progress {
+    /// The progress after one more line, or what stops the check there.
+    pub(crate) fn next(self, alloc: Global, line: &[u8]) -> Result<Progress, Stop>
         requires { length line.now ≤ longest_line }
-        ensures next { IfOk result (λ place. (lines : List (List ℕ)) (stage : Stage) →
-            Says lines stage → StandsFor self stage → GoesOn lines line.now place) }
-        ensures failed { IfErr result (λ stop. (stage : Stage) → StandsFor self stage → StopsAt stage line.now stop) }
+        ensures next { IfOk result (λ progress. (lines : List (List ℕ)) (stage : Stage) →
+            Says lines stage → IsAtStage self stage → GoesOn lines line.now progress) }
+        ensures failed { IfErr result (λ stop. (stage : Stage) → IsAtStage self stage → StopsAt stage line.now stop) }
     {
         match self {
-            Place::Blank => match kind_of(line) {
-                Some(kind) => Ok(Place::Headed(kind)),
+            Progress::Blank => match kind_of(line) {
+                Some(kind) => Ok(Progress::Headed(kind)),
                 None => Err(Stop::Wrong(Part::Form)),
             },
-            Place::Headed(kind) => match begin(line) {
-                Ok(model) => Ok(Place::Begun(Body::of(alloc, kind, model)?)),
+            Progress::Headed(kind) => match begin(line) {
+                Ok(model) => Ok(Progress::Begun(Body::of(alloc, kind, model)?)),
                 Err(part) => Err(Stop::Wrong(part)),
             },
-            Place::Begun(body) => next_in_body(body, line),
-            Place::Ended(_) => Err(Stop::Wrong(Part::Form)),
+            Progress::Begun(body) => next_in_body(body, line),
+            Progress::Ended(_) => Err(Stop::Wrong(Part::Form)),
         }
     }
 
     /// What the file is where it ends after this piece of a line, of that number.
     pub(crate) fn ends(&self, piece: &[u8], number: u32) -> Checked
-        ensures verdict { (stage : Stage) → StandsFor self.now stage → EndsAs stage piece.now number result }
-        ensures quiet { (faults : ℕ) → CountsFault result faults faults }
+        ensures verdict { (stage : Stage) → IsAtStage self.now stage → EndsAs stage piece.now number result }
+        ensures on_text { result ≢ Checked.ReadFault }
     {
         match self {
-            Place::Begun(body) => {
+            Progress::Begun(body) => {
                 if is_end(piece) {
                     body.verdict()
                 } else {
                     Checked::Unfinished { line: number }
                 }
             }
-            Place::Ended(body) => {
+            Progress::Ended(body) => {
                 if piece.is_empty() {
                     body.verdict()
                 } else {
@@ -76,23 +75,23 @@ impl Place {
                     }
                 }
             }
-            Place::Blank | Place::Headed(_) => Checked::Unfinished { line: number },
+            Progress::Blank | Progress::Headed(_) => Checked::Unfinished { line: number },
         }
     }
 }
 
-/// The place after one more line behind a model.
-fn next_in_body(body: Body, line: &[u8]) -> Result<Place, Stop>
-    ensures next { IfOk result (λ place. (lines : List (List ℕ)) (stage : Stage) →
-        Says lines stage → StandsFor (Place.Begun body) stage → GoesOn lines line.now place) }
-    ensures failed { IfErr result (λ stop. (stage : Stage) → StandsFor (Place.Begun body) stage → StopsAt stage line.now stop) }
+/// The progress after one more line behind a model.
+fn next_in_body(body: Body, line: &[u8]) -> Result<Progress, Stop>
+    ensures next { IfOk result (λ progress. (lines : List (List ℕ)) (stage : Stage) →
+        Says lines stage → IsAtStage (Progress.Begun body) stage → GoesOn lines line.now progress) }
+    ensures failed { IfErr result (λ stop. (stage : Stage) → IsAtStage (Progress.Begun body) stage → StopsAt stage line.now stop) }
 {
     if is_end(line) {
-        return Ok(Place::Ended(body));
+        return Ok(Progress::Ended(body));
     }
     let mut body = body;
     body.add(line)?;
-    Ok(Place::Begun(body))
+    Ok(Progress::Begun(body))
 }
 
 /// Whether the line is the last of a file.

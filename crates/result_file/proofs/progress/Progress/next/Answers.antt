@@ -1,5 +1,5 @@
 use Rattle.result_file.proofs.StageLaws.{heads, begins, stops_headed}
-use Rattle.result_file.proofs.places.Place.next.Goals as goal
+use Rattle.result_file.proofs.progress.Progress.next.Goals as goal
 
 pub returns-in-Some-clause-next : goal.returns-in-Some-clause-next
 returns-in-Some-clause-next c = λ lines stage says h.

@@ -2,7 +2,7 @@ use Rattle.std.proofs.Common.{◌≢◌, rules}
 use Rattle.std.proofs.lemmas.Result.{err_from_is_err_and}
 use Rattle.result_file.specs.Texts.{end_line}
 use Rattle.result_file.proofs.StageLaws.{adds, ends, stops_begun}
-use Rattle.result_file.proofs.places.next_in_body.Goals as goal
+use Rattle.result_file.proofs.progress.next_in_body.Goals as goal
 
 pub returns-then-is_end-clause-next : goal.returns-then-is_end-clause-next
 returns-then-is_end-clause-next c = λ lines stage. ends c.args.body c.args.line.now lines stage (search rules)

@@ -1,8 +1,8 @@
 // The fields of a line.
 ghost use Rattle.std.specs.Prelude.{◌≡◌, ◌<◌, ◌≤◌, None, Some, length, take, MatchOption, IfSome, unsigned_abs};
 ghost use Rattle.text_fields.specs.Spelling.{IsCertificate};
-ghost use Rattle.text_fields.specs.Reading.{Gives, GivesList, list_at};
-ghost use Rattle.result_file.specs.Reading.{tuple_at, pair_at, side_at, ranking_at, answer_at, model_at, weights_at, cite_at, cites_at, combination_at};
+ghost use Rattle.text_fields.specs.Reading.{ReadsAs, ReadsListAs, read_list};
+ghost use Rattle.result_file.specs.Reading.{read_tuple, read_pair, read_side, read_ranking, read_answer, read_model, read_weights, read_cite, read_cites, read_combination};
 
 use criteria_model::{Answer, Pair, Side, Tuple, Vector};
 use farkas_check::Cite;
@@ -18,11 +18,11 @@ const MOST_LEVEL: u8 = 25;
 const MOST_ANSWERS: u32 = 131_072;
 
 /// Reads the levels into the front of `cells`, and says how many there are and what the degree is.
-#[tactic(auto, unfolding(crate::specs::Reading::model_at))]
+#[tactic(auto, unfolding(crate::specs::Reading::read_model))]
 pub(crate) fn model_of(line: &[u8], cells: &mut [u32; 2048]) -> Option<(usize, u32)>
     ensures { MatchOption result
-        (model_at line.now ≡ None)
-        (λ found. (found.0 ≤ 2048) × (model_at line.now ≡ Some (take found.0 cells.new, found.1))) }
+        (read_model line.now ≡ None)
+        (λ found. (found.0 ≤ 2048) × (read_model line.now ≡ Some (take found.0 cells.new, found.1))) }
 {
     let mut fields = Fields::of(line);
     fields.word(b"model ")?;
@@ -36,9 +36,9 @@ pub(crate) fn model_of(line: &[u8], cells: &mut [u32; 2048]) -> Option<(usize, u
 }
 
 /// Reads one side of a pair.
-#[tactic(auto, unfolding(crate::specs::Reading::tuple_at))]
+#[tactic(auto, unfolding(crate::specs::Reading::read_tuple))]
 fn tuple(fields: &mut Fields<'_>, criteria: usize) -> Option<Tuple>
-    ensures { Gives result fields.new (tuple_at criteria fields.old) }
+    ensures { ReadsAs result fields.new (read_tuple criteria fields.old) }
 {
     let mut cells = [0; 24];
     let count = fields.small_numbers(MOST_LEVEL, &mut cells)?;
@@ -49,9 +49,9 @@ fn tuple(fields: &mut Fields<'_>, criteria: usize) -> Option<Tuple>
 }
 
 /// Reads a pair.
-#[tactic(auto, unfolding(crate::specs::Reading::pair_at))]
+#[tactic(auto, unfolding(crate::specs::Reading::read_pair))]
 pub(crate) fn pair(fields: &mut Fields<'_>, criteria: usize) -> Option<Pair>
-    ensures { Gives result fields.new (pair_at criteria fields.old) }
+    ensures { ReadsAs result fields.new (read_pair criteria fields.old) }
 {
     let left = tuple(fields, criteria)?;
     fields.word(b"/")?;
@@ -60,9 +60,9 @@ pub(crate) fn pair(fields: &mut Fields<'_>, criteria: usize) -> Option<Pair>
 }
 
 /// Reads a side.
-#[tactic(auto, unfolding(crate::specs::Reading::side_at))]
+#[tactic(auto, unfolding(crate::specs::Reading::read_side))]
 pub(crate) fn side(fields: &mut Fields<'_>) -> Option<Side>
-    ensures { Gives result fields.new (side_at fields.old) }
+    ensures { ReadsAs result fields.new (read_side fields.old) }
 {
     if fields.word(b"left").is_some() {
         return Some(Side::Left);
@@ -75,9 +75,9 @@ pub(crate) fn side(fields: &mut Fields<'_>) -> Option<Side>
 }
 
 /// Reads a pair and a side of it.
-#[tactic(auto, unfolding(crate::specs::Reading::ranking_at))]
+#[tactic(auto, unfolding(crate::specs::Reading::read_ranking))]
 pub(crate) fn ranking(fields: &mut Fields<'_>, criteria: usize) -> Option<Answer>
-    ensures { Gives result fields.new (ranking_at criteria fields.old) }
+    ensures { ReadsAs result fields.new (read_ranking criteria fields.old) }
 {
     let pair = pair(fields, criteria)?;
     fields.word(b" ")?;
@@ -86,9 +86,9 @@ pub(crate) fn ranking(fields: &mut Fields<'_>, criteria: usize) -> Option<Answer
 }
 
 /// The answer that a line spells, for so many criteria.
-#[tactic(auto, unfolding(crate::specs::Reading::answer_at))]
+#[tactic(auto, unfolding(crate::specs::Reading::read_answer))]
 pub(crate) fn answer_of(line: &[u8], criteria: usize) -> Option<Answer>
-    ensures { result ≡ answer_at criteria line.now }
+    ensures { result ≡ read_answer criteria line.now }
 {
     let mut fields = Fields::of(line);
     fields.word(b"answer ")?;
@@ -100,9 +100,9 @@ pub(crate) fn answer_of(line: &[u8], criteria: usize) -> Option<Answer>
 }
 
 /// Reads the increments' weights.
-#[tactic(auto, unfolding(crate::specs::Reading::weights_at))]
+#[tactic(auto, unfolding(crate::specs::Reading::read_weights))]
 pub(crate) fn weights(fields: &mut Fields<'_>, increments: usize) -> Option<Vector>
-    ensures { Gives result fields.new (weights_at increments fields.old) }
+    ensures { ReadsAs result fields.new (read_weights increments fields.old) }
 {
     let mut cells = [0; 24];
     let count = fields.certificates(&mut cells)?;
@@ -113,9 +113,9 @@ pub(crate) fn weights(fields: &mut Fields<'_>, increments: usize) -> Option<Vect
 }
 
 /// Reads a cited answer and its weight.
-#[tactic(auto, unfolding(crate::specs::Reading::cite_at))]
+#[tactic(auto, unfolding(crate::specs::Reading::read_cite))]
 fn cite(fields: &mut Fields<'_>) -> Option<Cite>
-    ensures exact { Gives result fields.new (cite_at fields.old) }
+    ensures exact { ReadsAs result fields.new (read_cite fields.old) }
     ensures weight { IfSome result (λ cite. IsCertificate cite.weight) }
 {
     let answer = fields.number(MOST_ANSWERS)?;
@@ -128,7 +128,7 @@ fn cite(fields: &mut Fields<'_>) -> Option<Cite>
 /// next or there are cells.
 fn cite_list(fields: &mut Fields<'_>, cells: &mut [Cite]) -> Option<usize>
     requires { 0 < length cells.old }
-    ensures exact { GivesList result cells.new fields.new (list_at cite_at (length cells.old) fields.old) }
+    ensures exact { ReadsListAs result cells.new fields.new (read_list read_cite (length cells.old) fields.old) }
 {
     cells[0] = cite(fields)?;
     let mut count = 1;
@@ -140,9 +140,9 @@ fn cite_list(fields: &mut Fields<'_>, cells: &mut [Cite]) -> Option<usize>
 }
 
 /// Reads the cites of a combination, in whatever order, into the front of `cells`, and says how many.
-#[tactic(auto, unfolding(crate::specs::Reading::cites_at))]
+#[tactic(auto, unfolding(crate::specs::Reading::read_cites))]
 fn cites(fields: &mut Fields<'_>, cells: &mut [Cite; 24]) -> Option<usize>
-    ensures { GivesList result cells.new fields.new (cites_at fields.old) }
+    ensures { ReadsListAs result cells.new fields.new (read_cites fields.old) }
 {
     if fields.skip(b'-') {
         return Some(0);
@@ -152,15 +152,15 @@ fn cites(fields: &mut Fields<'_>, cells: &mut [Cite; 24]) -> Option<usize>
 
 /// Reads a combination: its scale, the increments' weights, and its cites, in whatever order, into the front of
 /// `cells`; says how many cites there are.
-#[tactic(auto, unfolding(crate::specs::Reading::combination_at))]
+#[tactic(auto, unfolding(crate::specs::Reading::read_combination))]
 pub(crate) fn combination(
     fields: &mut Fields<'_>,
     increments: usize,
     cells: &mut [Cite; 24],
 ) -> Option<(i128, Vector, usize)>
     ensures exact { MatchOption result
-        (combination_at increments fields.old ≡ None)
-        (λ found. combination_at increments fields.old
+        (read_combination increments fields.old ≡ None)
+        (λ found. read_combination increments fields.old
         ≡ Some (record { scale = found.0; increments = found.1; answers = take found.2 cells.new }, fields.new)) }
     ensures within { IfSome result (λ found. found.2 ≤ 24) }
     ensures scale { IfSome result (λ found. IsCertificate found.0) }
