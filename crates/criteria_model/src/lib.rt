@@ -1,4 +1,14 @@
-//! The additive model of criteria and levels, its pairs and answers, and what they mean.
+//! The additive model of criteria and levels, its pairs and answers, and what they mean for all
+//! value vectors.
+//!
+//! A `Model` is made from level counts and a degree limit, or refused with the first fault that
+//! holds. It says of a pair whether it fits, is a class, and which increments the winner has more
+//! (`gain`); a vector ranks a pair by the sign of its product with that row (`Vector::dot`).
+//! `Tuple`, `Vector` and `Row` are Copy lists of 1 to 24 numbers that contracts see as lists.
+//! `laws` has the laws of the definitions. No call takes memory.
+//!
+//! Inside: `counting` has the numbers of a model, `levels` compares two lists of levels,
+//! `differences` makes rows.
 #![tactic(auto)]
 
 pub use faults::ModelFault;
