@@ -1,8 +1,14 @@
 //! The edges of the program: where bytes come from and where they go, a reader of lines over a
 //! source, and a text that is written to a sink.
 //!
-//! Each source and sink carries a count of its faults. A call fails only where that count rose,
-//! and a call that succeeds leaves it as it was.
+//! Each source and sink carries a count of its faults. A call fails only where that count rose, and
+//! a call that succeeds leaves it as it was. An end may also show its bytes: a source those still
+//! to come, a sink those put so far.
+//!
+//! `MemSource` and `MemSink` are over memory and fail at the calls that a test names; `QuietSource`
+//! and `QuietSink` can't fail; `StdSource` and `StdSink` are the standard ends, which show nothing
+//! and are trusted. `Lines` has one buffer, taken by `reserve`: the longest line, its line end and
+//! 64 KiB of read-ahead; a line is a slice of it. `Text` has a fixed room.
 #![tactic(auto)]
 
 mod ends;

@@ -1,4 +1,4 @@
-//! The program `paprika`.
+//! The program `paprika`: its words, its one line of output and its statuses (`command`).
 #![tactic(auto)]
 
 mod command;
