@@ -1,5 +1,13 @@
-//! Decisions on pairs: whether answers rank a pair, with a certificate either way, and a vector for one
-//! more answer. A dictionary that stands for the answers is kept from call to call.
+//! Decisions on pairs: whether answers rank a pair, with a certificate either way, and a vector for
+//! one more answer.
+//!
+//! `decide` works on answers that a given vector meets. A dictionary that stands for them is kept
+//! from call to call, and is loaded anew only where it stood for none of their prefixes.
+//! `point_with` solves only for an answer `equal`. All memory is taken by `Tools::reserve`.
+//!
+//! Inside: `standing` brings a dictionary up to date, `trial` tries a ranking beside its rows,
+//! `combination` makes a combination of a clash, with `cite_list`; `rows` has the rows of a
+//! ranking, `decisions` and `point` the two calls.
 #![tactic(auto)]
 
 mod cite_list;

@@ -1,6 +1,15 @@
 //! An integer simplex dictionary: each basic variable as a constant plus a combination of the
-//! nonbasic ones, all times one positive scale. A pivot divides exactly, so every number stays a
-//! minor of the table of the loaded rows, and none grows past 2^89.
+//! nonbasic ones, all times one positive scale. A pivot divides exactly, and no number grows past
+//! 2^89.
+//!
+//! `load` empties a dictionary, `add_row` and `drop_last` let rows come and go at any time, `pivot`
+//! exchanges a basic and a nonbasic variable. All memory is taken by `reserve`. Variable 0 is the
+//! constant 1, and a line's last number is its constant.
+//!
+//! Rows lie in one block of memory (`lines`), and a pivot walks them in order with one `Divisor` of
+//! the old scale. A row with a 0 in the pivot's column stays as it is where old and new scale are
+//! equal, and where the entry and the old scale are 1 nothing is divided. `places` keeps each
+//! variable's place beside the list of variables, so that no call searches for one but `drop_last`.
 #![tactic(auto)]
 
 mod dictionary;

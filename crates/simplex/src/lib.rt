@@ -1,5 +1,12 @@
 //! The solver: a positive vector that meets the loaded rows of a dictionary, or weights that show
-//! that none does. It pivots by the least-index rule, which ends.
+//! that none does.
+//!
+//! `solve` pivots by the least-index rule, which ends (`least_index`), from any dictionary, fresh
+//! or warm. It takes no memory and leaves the rows as they were.
+//!
+//! Inside: `choice` has the rule's row and column, `solver` the loop, `point` the vector of a
+//! feasible dictionary, `clash` the weights of a blocked row's equation, `row_weights` a list of at
+//! most 25 weighted rows, `divisor` greatest common divisors.
 #![tactic(auto)]
 
 mod choice;

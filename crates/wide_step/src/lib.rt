@@ -1,4 +1,12 @@
-//! Exact steps on whole numbers whose products need more than 128 bits, and the greatest common divisor.
+//! Exact steps on whole numbers whose products need more than 128 bits, and the greatest common
+//! divisor.
+//!
+//! `step` is the quotient of `a * b - c * d` by `e`. Factors below 2^62 in size are multiplied
+//! directly; else each product is formed bit by bit as quotient and remainder by `e` (`divided`),
+//! with quotients kept modulo 2^128. A `Divisor` is for many steps: below 2^63 it keeps the
+//! inverses of its odd part modulo 2^64 and 2^128 (`inverse`), so that a multiple is divided by a
+//! shift and a product; factors below 2^31 take 64-bit numbers, those below 2^62 take 128-bit ones,
+//! and all else goes to `step`. `gcd` is never negative, and that of 0 and 0 is 0.
 #![tactic(auto)]
 
 ghost use Rattle.std.specs.Prelude.{◌≡◌, ◌<◌, ◌^◌, pos, ◌*ℤ◌, ◌-ℤ◌, ◌≤ℤ◌, ◌↔◌, unsigned_abs, IsTrue};
