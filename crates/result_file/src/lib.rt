@@ -4,10 +4,10 @@
 //! says that a text has one verdict at most. Of claims only the answers are kept, and memory grows
 //! with them; of a survey what a `Core` keeps, taken at the model line.
 //!
-//! Inside: `checking` has the loop over lines. `places` says how far the file has come: no line,
+//! Inside: `checking` has the loop over lines. `progress` says how far the file has come: no line,
 //! the heading, a body, or a body that has ended. `bodies` is either `claims` or `survey`.
-//! `entries` and `eliminations` read one line in place, with the fields of `lines`; an entry names
-//! its class by a pair, as the line does, and `survey` looks the pair up.
+//! `entries` and `eliminations` read one line in place, with the fields of `line_fields`; an entry
+//! names its class by a pair, as the line does, and `survey` looks the pair up.
 #![tactic(auto)]
 
 mod bodies;
