@@ -1,7 +1,7 @@
 -- What a `Core` answers from its marks.
 use Rattle.std.proofs.Common.{◌≡◌, ◌⊎◌, ◌↔◌, ℕ, suc, ◌+◌, ◌-◌, ◌<◌, ◌≤◌, Bool, true, false, cond, ◌||◌, IsTrue, List, [], ◌∷◌, ◌++◌, length, All, Some, slice_get, IsSomeAnd, Option, ℤ, refl, ap, sym, subst, ◌∙◌, inl, inr, arith}
 use Rattle.std.specs.List.{count_by}
-use Rattle.std.proofs.lemmas.List.Sums.{sum_by-cons}
+use Rattle.std.proofs.lemmas.List.Sums.{sum_by-cons, count_by-le-length}
 use Rattle.std.proofs.lemmas.Option.{slice_get_within, slice_get-map, get_or_from_slice_get}
 use Rattle.std.specs.Option.{option_map}
 use Rattle.criteria_model.proofs.RowLemmas.{length-map}
@@ -20,12 +20,13 @@ use Rattle.survey_core.specs.declared.events.Event.{Event}
 use Rattle.survey_core.specs.declared.marks.Mark.{Mark}
 use Rattle.survey_core.specs.declared.marks.Question.{Question}
 use Rattle.survey_core.specs.Histories.{issued, place_of, class_at, committed, is_unended, open_questions, IsOpenQuestion, is_eliminated, is_ranked}
-use Rattle.survey_core.specs.Legal.{IsPlace, AreEarlierAsked, OpensPlace}
-use Rattle.survey_core.specs.Marked.{Table, is_ranking, is_elimination, is_open, is_ranked_mark, is_open_mark, AreSettled, IsMark, IsQuestionMark, IsKept}
+use Rattle.survey_core.specs.Legal.{IsPlace, AreEarlierAsked, OpensClass}
+use Rattle.survey_core.specs.Marked.{Table, is_ranking, is_elimination, is_open, is_ranked_mark, is_open_mark, is_answer_up_to, AreSettled, IsMark, IsQuestionMark, KeepsHistory}
 use Rattle.survey_core.proofs.ListSteps.{slice_get_inside, Each, Each-append, Each-All, All-Each, Each-front, Each-back, some_at, at_some, filtered_range}
 use Rattle.survey_core.proofs.SoundLemmas.{IsSound, sound_history}
 use Rattle.survey_core.proofs.TableLemmas.{count_less}
-use Rattle.survey_core.proofs.ReadLemmas.{mark_eliminated, mark_ranked, question_unended, open_count, contains_filtered, answers_fit}
+use Rattle.survey_core.proofs.ItemLemmas.{item_of, item_found}
+use Rattle.survey_core.proofs.ReadLemmas.{mark_at, question_at, issued_len, asks_at, mark_eliminated, mark_ranked, question_unended, open_count, contains_filtered, answers_fit}
 
 false_true : false ≡ true → ⊥
 false_true h = cc
@@ -75,18 +76,13 @@ meets_pop levels answers given point meets =
     )
 
 module _ (listed : Listed) (history : List Event) (answers : AnswersWithRoom) (table : Table) (withdrawn room : ℕ)
-    (kept : IsKept listed history answers table withdrawn room) where
-  pub mark_at : (place : ℕ) (mark : Mark) → 1 ≤ place → slice_get table.classes (place - 1) ≡ Some mark → IsMark history place mark
-  mark_at place mark low at =
-      let same : place - 1 + 1 ≡ place = omega arith in
-      subst (λ (n : ℕ). IsMark history n mark) same (kept.table_of.each_class (place - 1) mark at)
-
+    (kept : KeepsHistory listed history answers table withdrawn room) where
   pub ranked_at : (place : ℕ) (mark : Mark) → 1 ≤ place → slice_get table.classes (place - 1) ≡ Some mark → is_ranked history place ≡ is_ranking mark.ranking
-  ranked_at place mark low at = mark_ranked history place mark (mark_at place mark low at)
+  ranked_at place mark low at = mark_ranked history place mark (mark_at kept.table_of place mark low at)
 
   pub eliminated_at : (place : ℕ) (mark : Mark) → 1 ≤ place → slice_get table.classes (place - 1) ≡ Some mark
       → is_eliminated history place ≡ is_elimination mark.ranking
-  eliminated_at place mark low at = mark_eliminated history place mark (mark_at place mark low at)
+  eliminated_at place mark low at = mark_eliminated history place mark (mark_at kept.table_of place mark low at)
 
   abbrev pub Found : ℕ → Type 0
   Found place = (mark : Mark) × (slice_get table.classes (place - 1) ≡ Some mark)
@@ -98,7 +94,7 @@ module _ (listed : Listed) (history : List Event) (answers : AnswersWithRoom) (t
   front_at place is = (
     (λ all earlier low high.
         let found : Found earlier = found_at earlier (low, omega (arith, is.1)) in
-        let mark : IsMark history earlier found.0 = mark_at earlier found.0 low found.1 in
+        let mark : IsMark history earlier found.0 = mark_at kept.table_of earlier found.0 low found.1 in
         elim (or_either (is_ranking found.0.ranking) found.0.issued (all (earlier - 1) found.0 (omega arith) found.1)) [
           | inl ranked ↦ inl (ranked_at earlier found.0 low found.1 ∙ ranked)
           | inr asked ↦ inr (mark.asked ∙ asked)
@@ -108,7 +104,7 @@ module _ (listed : Listed) (history : List Event) (answers : AnswersWithRoom) (t
         let here : slice_get table.classes (k + 1 - 1) ≡ Some mark = subst (λ (n : ℕ). slice_get table.classes n ≡ Some mark) (next_less k) at in
         elim (all (k + 1) from_one (omega arith)) [
           | inl ranked ↦ or_left (is_ranking mark.ranking) mark.issued (sym (ranked_at (k + 1) mark from_one here) ∙ ranked)
-          | inr asked ↦ or_right (is_ranking mark.ranking) mark.issued (sym (mark_at (k + 1) mark from_one here).asked ∙ asked)
+          | inr asked ↦ or_right (is_ranking mark.ranking) mark.issued (sym (mark_at kept.table_of (k + 1) mark from_one here).asked ∙ asked)
         ]),
   )
 
@@ -133,27 +129,22 @@ module _ (listed : Listed) (history : List Event) (answers : AnswersWithRoom) (t
   pub fit_at : All (λ answer. IsFit listed.criteria.levels answer.pair) answers.answers
   fit_at = subst (λ (l : List Answer). All (λ answer. IsFit listed.criteria.levels answer.pair) l) (sym kept.answered) (answers_fit listed history kept.model)
 
-  -- the mark of a question
-  pub asks_at : (number : ℕ) (question : Question) → slice_get table.questions (number - 1) ≡ Some question → place_of (issued history) number ≡ Some question.place
-  asks_at number question at =
-      ap (λ (l : List ℕ). slice_get l (number - 1)) (sym kept.table_of.places)
-      ∙ slice_get-map (λ (q : Question). q.place) table.questions (number - 1) ∙ ap (λ (o : Option Question). option_map (λ (q : Question). q.place) o) at
+  -- each answer is of a class of its own
+  pub few_answers : length answers.answers ≤ length listed.classes
+  few_answers =
+      let most : ℕ = length answers.answers in
+      omega (arith, kept.table_of.answer_count most, count_by-le-length (is_answer_up_to most) table.classes, kept.table_of.len)
 
+  -- the mark of a question
   pub unended_at : (number : ℕ) (question : Question) → 1 ≤ number → slice_get table.questions (number - 1) ≡ Some question
       → is_unended history number ≡ is_open question.ending
-  unended_at number question low at =
-      let same : number - 1 + 1 ≡ number = omega arith in
-      question_unended history number question
-      (subst (λ (n : ℕ). IsQuestionMark history n question) same (kept.table_of.each_question (number - 1) question at))
-
-  pub issued_len : length (issued history) ≡ length table.questions
-  issued_len = ap (λ (l : List ℕ). length l) (sym kept.table_of.places) ∙ length-map (λ (q : Question). q.place) table.questions
+  unended_at number question low at = question_unended history number question (question_at kept.table_of number question low at)
 
   pub open_question_at : (number : ℕ) (question : Question) → 1 ≤ number → slice_get table.questions (number - 1) ≡ Some question
       → is_open question.ending ≡ true → IsOpenQuestion history number
   open_question_at number question low at is =
       contains_filtered (is_unended history) 1 (length (issued history)) number low
-      (omega (arith, issued_len, slice_get_within table.questions (number - 1) question at)) (unended_at number question low at ∙ is)
+      (omega (arith, issued_len kept.table_of, slice_get_within table.questions (number - 1) question at)) (unended_at number question low at ∙ is)
 
   pub ended_question_at : (number : ℕ) (question : Question) → 1 ≤ number → slice_get table.questions (number - 1) ≡ Some question
       → is_open question.ending ≡ false → ¬ IsOpenQuestion history number
@@ -166,13 +157,14 @@ module _ (listed : Listed) (history : List Event) (answers : AnswersWithRoom) (t
   unasked_at number is = λ open_now.
       let found : (1 ≤ number) × (number < 1 + length (issued history)) × (is_unended history number ≡ true) =
       filtered_range (is_unended history) 1 (length (issued history)) number open_now in
-      elim is [ inl none ↦ absurd (omega (arith, found.0)) | inr more ↦ absurd (omega (arith, found.1, issued_len)) ]
+      elim is [ inl none ↦ absurd (omega (arith, found.0)) | inr more ↦ absurd (omega (arith, found.1, issued_len kept.table_of)) ]
 
   -- an issued class is one of the model
-  pub place_at : (number : ℕ) (question : Question) → slice_get table.questions (number - 1) ≡ Some question → IsPlace listed question.place
-  place_at number question at =
+  pub place_at : (number : ℕ) (question : Question) → 1 ≤ number → slice_get table.questions (number - 1) ≡ Some question → IsPlace listed question.place
+  place_at number question low at =
       let sound : IsSound listed history = sound_history listed history kept.legal in
-      let asks : place_of (issued history) number ≡ Some question.place = asks_at number question at in
+      let asks : slice_get (issued history) (number - 1) ≡ Some question.place =
+      item_found (issued history) number question.place (asks_at kept.table_of number question low at) in
       let within : number - 1 < length (issued history) = slice_get_within (issued history) (number - 1) question.place asks in
       subst (λ (n : ℕ). IsPlace listed n) (get_or_from_slice_get (issued history) (number - 1) question.place 0 asks)
       (Each-All (IsPlace listed) (issued history) sound.places (number - 1) 0 within)
@@ -182,24 +174,27 @@ module _ (listed : Listed) (history : List Event) (answers : AnswersWithRoom) (t
   levels = listed.criteria.levels
 
   abbrev Stands : ℕ → Pair → Type 0
-  Stands place pair = slice_get listed.classes (place - 1) ≡ Some pair
+  Stands place pair = (1 ≤ place) × (slice_get listed.classes (place - 1) ≡ Some pair)
+
+  stands_at : (place : ℕ) (pair : Pair) → Stands place pair → class_at listed.classes place ≡ Some pair
+  stands_at place pair stands = item_of listed.classes place pair stands.0 stands.1
 
   pub flaw_at : (model : Criteria) (place : ℕ) (pair : Pair) (combination : Combination) (verdict : Side) (flaw : Option Flaw) → model ≡ listed.criteria → Stands place pair
       → IsFirstFlaw model.levels answers.answers combination pair verdict flaw
       → IsSomeAnd (class_at listed.classes place) (λ pair. IsFirstFlaw levels (committed listed.classes history) combination pair verdict flaw)
   flaw_at model place pair combination verdict flaw same at first =
-      some_at (class_at listed.classes place) (λ pair. IsFirstFlaw levels (committed listed.classes history) combination pair verdict flaw) pair at
+      some_at (class_at listed.classes place) (λ pair. IsFirstFlaw levels (committed listed.classes history) combination pair verdict flaw) pair (stands_at place pair at)
       (subst (λ (l : List Answer). IsFirstFlaw levels l combination pair verdict flaw) kept.answered
       (subst (λ (m : Criteria). IsFirstFlaw m.levels answers.answers combination pair verdict flaw) same first))
 
   pub opens_at : (model : Criteria) (place : ℕ) (pair : Pair) (plus minus : List ℤ) (r : Bool) → model ≡ listed.criteria → Stands place pair
-      → IsTrue r ↔ Opens model.levels answers.answers pair plus minus → IsTrue r ↔ OpensPlace listed history place plus minus
+      → IsTrue r ↔ Opens model.levels answers.answers pair plus minus → IsTrue r ↔ OpensClass listed history place plus minus
   opens_at model place pair plus minus r same at exactly =
       let here : IsTrue r ↔ Opens levels (committed listed.classes history) pair plus minus =
       subst (λ (l : List Answer). IsTrue r ↔ Opens levels l pair plus minus) kept.answered
       (subst (λ (m : Criteria). IsTrue r ↔ Opens m.levels answers.answers pair plus minus) same exactly) in
       let Opened : Pair → Type 0 = λ pair. Opens levels (committed listed.classes history) pair plus minus in
-      ((λ h. some_at (class_at listed.classes place) Opened pair at (here.0 h)), (λ h. here.1 (at_some (class_at listed.classes place) Opened pair at h)))
+      ((λ h. some_at (class_at listed.classes place) Opened pair (stands_at place pair at) (here.0 h)), (λ h. here.1 (at_some (class_at listed.classes place) Opened pair (stands_at place pair at) h)))
 
   pub meets_at : (model : Criteria) (place : ℕ) (pair : Pair) (side : Side) (point : List ℤ) → model ≡ listed.criteria → Stands place pair
       → (MeetsAll model.levels answers.answers point × Ranks model.levels point pair side)
@@ -210,8 +205,8 @@ module _ (listed : Listed) (history : List Event) (answers : AnswersWithRoom) (t
       λ m. (MeetsAll m.levels answers.answers point × Ranks m.levels point pair side) ↔ IsSomeAnd (class_at listed.classes place) (With (committed listed.classes history)) in
       let given : Answer = record { pair = pair; side = side } in
       subst Both (sym same) (
-        (λ h. some_at (class_at listed.classes place) (With (committed listed.classes history)) pair at
+        (λ h. some_at (class_at listed.classes place) (With (committed listed.classes history)) pair (stands_at place pair at)
             (subst (λ (l : List Answer). With l pair) kept.answered (meets_push levels answers.answers given point h.0 h.1))),
         (λ h. meets_pop levels answers.answers given point
-            (subst (λ (l : List Answer). With l pair) (sym kept.answered) (at_some (class_at listed.classes place) (With (committed listed.classes history)) pair at h))),
+            (subst (λ (l : List Answer). With l pair) (sym kept.answered) (at_some (class_at listed.classes place) (With (committed listed.classes history)) pair (stands_at place pair at) h))),
       )

@@ -121,7 +121,7 @@ last_point_meets_lem listed history model legal =
     subst (λ (l : List Answer). MeetsAll listed.criteria.levels l (replicate (increments listed.criteria.levels) (pos 1))) empty (ones_meet listed.criteria.levels))
 
 pub ranked_by_answers_lem : RankedByAnswers
-ranked_by_answers_lem listed history place pair model legal ranked from_one class =
+ranked_by_answers_lem listed history place pair model legal ranked class =
     let sound : IsSound listed history = sound_history listed history legal in
     let answers : List Answer = committed listed.classes history in
     elim (or_cases (is_eliminated history place) (is_committed history place) ranked) [

@@ -1,4 +1,6 @@
 pub mod ListSteps
+pub mod NamedParts
+pub mod ItemLemmas
 pub mod StandingLemmas
 pub mod CitedLemmas
 pub mod SoundLemmas

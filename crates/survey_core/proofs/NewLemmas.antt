@@ -6,7 +6,8 @@ use Rattle.answer_rows.specs.Room.{AnswersWithRoom}
 use Rattle.criteria_model.specs.declared.pairs.Answer.{Answer}
 use Rattle.pair_enumeration.specs.Listed.{Listed, IsListed}
 use Rattle.survey_core.specs.declared.marks.Mark.{Mark}
-use Rattle.survey_core.specs.Marked.{Table, unmarked, IsMark, is_answer_up_to, IsTableOf, IsKept}
+use Rattle.survey_core.specs.declared.limits.TheConstants.{MAX_EVENTS}
+use Rattle.survey_core.specs.Marked.{Table, unmarked, IsMark, is_answer_up_to, IsTableOf, KeepsHistory}
 use Rattle.survey_core.proofs.TableLemmas.{count_none}
 
 replicate_at : {X : Type 0} (n : ℕ) (x : X) (k : ℕ) (y : X) → slice_get (replicate n x) k ≡ Some y → x ≡ y
@@ -30,8 +31,8 @@ first_table listed =
     }
 
 pub new_kept : (listed : Listed) (answers : AnswersWithRoom) (room : ℕ) → IsListed listed → length listed.classes ≤ 16384 → answers.answers ≡ []
-    → length listed.classes ≤ answers.spare → 131072 ≤ room
-    → IsKept listed [] answers (record { classes = replicate (length listed.classes) unmarked; questions = [] }) 0 room
+    → length listed.classes ≤ answers.spare → MAX_EVENTS ≤ room
+    → KeepsHistory listed [] answers (record { classes = replicate (length listed.classes) unmarked; questions = [] }) 0 room
 new_kept listed answers room model few empty spare fits =
     let none : length answers.answers ≡ 0 = ap (λ (l : List Answer). length l) empty in
     let table : Table = record { classes = replicate (length listed.classes) unmarked; questions = [] } in

@@ -25,15 +25,18 @@ use Rattle.survey_core.specs.declared.marks.Ending.TheVariants.{Open, Committed,
 use Rattle.survey_core.specs.declared.marks.Mark.{Mark}
 use Rattle.survey_core.specs.declared.marks.Question.{Question}
 use Rattle.survey_core.specs.Kinds.{is_withdraw}
-use Rattle.survey_core.specs.Histories.{standing, issued, is_issued, place_of, class_at, class_of, committed, commits_class, ends, is_unended, IsOpenQuestion, is_eliminated, is_committed, is_ranked, withdrawals}
-use Rattle.survey_core.specs.Legal.{IsEvent, IsPlace, MayEliminate, MayIssue, MayCommit, MayClose, MayWithdraw, MayFollow, IsLegal, IsSpent}
-use Rattle.survey_core.specs.Marked.{greatest_cited, Table, numbered, is_ranking, is_open, is_ranked_mark, is_open_mark, is_number_up_to, is_answer_up_to, with_ranking, with_issued, with_ending, left_mark, left_question, IsTableOf, IsKept}
+use Rattle.survey_core.specs.Histories.{item_at, standing, issued, is_issued, place_of, class_at, class_of, committed, commits_class, ends, is_unended, IsOpenQuestion, is_eliminated, is_committed, is_ranked, withdrawals}
+use Rattle.survey_core.specs.Legal.{IsEvent, IsPlace, MayFollow, IsLegal, most_events}
+use Rattle.survey_core.specs.declared.limits.TheConstants.{MAX_EVENTS}
+use Rattle.survey_core.proofs.NamedParts.{MayEliminate, MayIssue, MayCommit, MayClose, MayWithdraw, HasParts, named, unnamed}
+use Rattle.survey_core.specs.Marked.{greatest_cited, Table, numbered, is_ranking, is_open, is_ranked_mark, is_open_mark, is_number_up_to, is_answer_up_to, with_ranking, with_issued, with_ending, left_mark, left_question, IsTableOf, KeepsHistory}
 use Rattle.survey_core.proofs.ListSteps.{Each, slice_get_inside, slice_get-push, take_whole, filtered_range, at_some}
 use Rattle.survey_core.proofs.StandingLemmas.{standing-push}
 use Rattle.survey_core.proofs.SoundLemmas.{IsSoundAt, IsSound, sound_history, committed-push, committed-issue, committed-withdraw}
 use Rattle.survey_core.proofs.TableLemmas.{count_set, count_less, one_if}
-use Rattle.survey_core.proofs.KeptLemmas.{mark_at, ranked_at, found_at, asks_at, unended_at, issued_len, place_at, or_either, or_left, or_right}
-use Rattle.survey_core.proofs.ReadLemmas.{map_some}
+use Rattle.survey_core.proofs.KeptLemmas.{ranked_at, found_at, unended_at, place_at, or_either, or_left, or_right}
+use Rattle.survey_core.proofs.ReadLemmas.{map_some, mark_at, asks_at, issued_len}
+use Rattle.survey_core.proofs.ItemLemmas.{item_of, item_found, item_positive, item_within}
 use Rattle.survey_core.proofs.NextTables.{table_eliminate, table_issue, table_commit, table_close, table_withdraw}
 
 -- ---- legal histories
@@ -67,7 +70,8 @@ commits_question listed history sound question place low asks before (Commit des
       | inl here ↦
           (let test : (each.0.place == place) ≡ true = subst (λ (o : Option ℕ). option_map_or (λ p. p == place) o false ≡ true) each.0.asks here in
           let same_place : Some each.0.place ≡ Some place = ap Some (eqb-true each.0.place place test) in
-          let same_index : other - 1 ≡ question - 1 = sound.once (other - 1) (question - 1) place (each.0.asks ∙ same_place) asks in
+          let same_index : other - 1 ≡ question - 1 =
+          sound.once (other - 1) (question - 1) place (item_found (issued history) other place (each.0.asks ∙ same_place)) (item_found (issued history) question place asks) in
           let same : other ≡ question = omega (arith, same_index, each.0.question_from_one) in
           or_left (ends question (Commit desk other side plus minus point)) (list_any (ends question) later)
           (or_left (other == question) false (eq-eqb other question same)))
@@ -114,15 +118,8 @@ ended_same : (questions : List Question) (k : ℕ) (ending : Ending) (question :
 ended_same questions k ending question at =
     ap (λ (o : Option Question). slice_set questions k (record { place = option_map_or (λ q. q.place) o 0; ending = ending })) (sym at)
 
-unspent_yes : (classes withdrawn : ℕ) → (IsSpent classes withdrawn → ⊥) → 3 * classes + 2 * classes * (withdrawn + 1) + (withdrawn + 1) ≤ 131072
-unspent_yes classes withdrawn not_spent =
-    elim (cases_lt 131072 (3 * classes + 2 * classes * (withdrawn + 1) + (withdrawn + 1))) [
-      | inl more ↦ absurd (not_spent more)
-      | inr less ↦ less
-    ]
-
 module _ (listed : Listed) (history : List Event) (answers : AnswersWithRoom) (table : Table) (withdrawn room : ℕ)
-    (kept : IsKept listed history answers table withdrawn room) where
+    (kept : KeepsHistory listed history answers table withdrawn room) where
   sound : IsSound listed history
   sound = sound_history listed history kept.legal
 
@@ -149,14 +146,14 @@ module _ (listed : Listed) (history : List Event) (answers : AnswersWithRoom) (t
 
   pub unissued_mark : (place : ℕ) (mark : Mark) → IsPlace listed place → is_issued history place ≡ false → slice_get table.classes (place - 1) ≡ Some mark
       → mark.issued ≡ false
-  unissued_mark place mark is no_ at = sym (mark_at listed history answers table withdrawn room kept place mark is.0 at).asked ∙ no_
+  unissued_mark place mark is no_ at = sym (mark_at kept.table_of place mark is.0 at).asked ∙ no_
 
   -- ---- open questions
   pub asked_within : (number : ℕ) → IsOpenQuestion history number → (1 ≤ number) × (number ≤ length table.questions)
   asked_within number is =
       let found : (1 ≤ number) × (number < 1 + length (issued history)) × (is_unended history number ≡ true) =
       filtered_range (is_unended history) 1 (length (issued history)) number is in
-      (found.0, omega (arith, found.1, issued_len listed history answers table withdrawn room kept))
+      (found.0, omega (arith, found.1, issued_len kept.table_of))
 
   pub open_mark : (number : ℕ) (question : Question) → IsOpenQuestion history number → slice_get table.questions (number - 1) ≡ Some question
       → question.ending ≡ Open
@@ -171,7 +168,7 @@ module _ (listed : Listed) (history : List Event) (answers : AnswersWithRoom) (t
   commit_unranked number side plus minus point question may at =
       let found : (1 ≤ number) × (number < 1 + length (issued history)) × (is_unended history number ≡ true) =
       filtered_range (is_unended history) 1 (length (issued history)) number may.open_question in
-      let asks : place_of (issued history) number ≡ Some question.place = asks_at listed history answers table withdrawn room kept number question at in
+      let asks : place_of (issued history) number ≡ Some question.place = asks_at kept.table_of number question found.0 at in
       let eliminated : is_eliminated history question.place ≡ false =
       at_some (place_of (issued history) number) (λ place. is_eliminated history place ≡ false) question.place asks may.uneliminated in
       let uncommitted : is_committed history question.place ≡ false =
@@ -183,21 +180,21 @@ module _ (listed : Listed) (history : List Event) (answers : AnswersWithRoom) (t
       ap (λ b. b || is_committed history question.place) eliminated ∙ uncommitted
 
   -- ---- one more event
-  abbrev IsKeptWith : Event → AnswersWithRoom → Table → ℕ → Type 0
-  IsKeptWith event after new more = IsKept listed (history ++ event ∷ []) after new more room
+  abbrev KeepsWith : Event → AnswersWithRoom → Table → ℕ → Type 0
+  KeepsWith event after new more = KeepsHistory listed (history ++ event ∷ []) after new more room
 
-  kept_by : (event : Event) (after : AnswersWithRoom) (new : Table) → IsEvent listed.criteria.levels event → MayFollow listed history event
+  kept_by : (event : Event) (after : AnswersWithRoom) (new : Table) → IsEvent listed.criteria.levels event → HasParts listed history event
       → is_withdraw event ≡ false → after.answers ≡ committed listed.classes (history ++ event ∷ []) → room_of after ≡ room_of answers
       → IsTableOf listed (history ++ event ∷ []) (length after.answers) new
       → 1 + count_by is_open_mark new.questions + length after.answers + 2 * length table.questions + count_by is_ranked_mark table.classes
       ≤ count_by is_open_mark table.questions + length answers.answers + 2 * length new.questions + count_by is_ranked_mark new.classes
-      → IsKeptWith event after new withdrawn
+      → KeepsWith event after new withdrawn
   kept_by event after new is may stays answered same_room table_of short =
       let made : withdrawals (history ++ event ∷ []) ≡ withdrawals history + cond (is_withdraw event) 1 0 =
       sum_by_push (λ e. cond (is_withdraw e) 1 0) history event in
       record {
         model = kept.model;
-        legal = legal_push listed history event kept.legal is may;
+        legal = legal_push listed history event kept.legal is (unnamed listed history event may);
         answered = answered;
         room_for_answers = omega (arith, kept.room_for_answers, same_room);
         table_of = table_of;
@@ -231,7 +228,7 @@ module _ (listed : Listed) (history : List Event) (answers : AnswersWithRoom) (t
 
   pub kept_eliminate : (worker place : ℕ) (verdict : Side) (combination : Combination) → IsEvent listed.criteria.levels (Eliminate worker place verdict combination)
       → MayEliminate listed history place verdict combination
-      → IsKeptWith (Eliminate worker place verdict combination) answers
+      → KeepsWith (Eliminate worker place verdict combination) answers
       (record { classes = with_ranking table.classes (place - 1) (Eliminated (greatest_cited combination.answers)); questions = table.questions }) withdrawn
   kept_eliminate worker place verdict combination is may =
       let event : Event = Eliminate worker place verdict combination in
@@ -242,14 +239,14 @@ module _ (listed : Listed) (history : List Event) (answers : AnswersWithRoom) (t
       let classes : List Mark = slice_set table.classes (place - 1) (record { ranking = ranking; issued = mark.issued }) in
       let same : committed listed.classes (history ++ event ∷ []) ≡ committed listed.classes history =
       committed-push listed history sound event refl (standing-push history event) ∙ append-nil (committed listed.classes history) in
-      subst (λ (l : List Mark). IsKeptWith event answers (record { classes = l; questions = table.questions }) withdrawn) (ranked_same table.classes (place - 1) ranking mark found.1)
+      subst (λ (l : List Mark). KeepsWith event answers (record { classes = l; questions = table.questions }) withdrawn) (ranked_same table.classes (place - 1) ranking mark found.1)
       (kept_by event answers (record { classes = classes; questions = table.questions }) is may refl (kept.answered ∙ sym same) refl
       (subst (λ (n : ℕ). IsTableOf listed (history ++ event ∷ []) n (record { classes = classes; questions = table.questions })) (sym answers_len)
       (table_eliminate listed history sound table table_now worker place verdict combination mark may.class.0 found.1 before))
       (omega (arith, ranked_more place mark ranking found.1 before refl)))
 
   pub kept_issue : (desk place : ℕ) (plus minus : List ℤ) → IsEvent listed.criteria.levels (Issue desk place plus minus) → MayIssue listed history place plus minus
-      → IsKeptWith (Issue desk place plus minus) answers
+      → KeepsWith (Issue desk place plus minus) answers
       (record { classes = with_issued table.classes (place - 1); questions = table.questions ++ record { place = place; ending = Open } ∷ [] }) withdrawn
   kept_issue desk place plus minus is may =
       let event : Event = Issue desk place plus minus in
@@ -264,7 +261,7 @@ module _ (listed : Listed) (history : List Event) (answers : AnswersWithRoom) (t
       let opened : count_by is_open_mark questions ≡ count_by is_open_mark table.questions + 1 = sum_by_push (λ q. cond (is_open_mark q) 1 0) table.questions question in
       let ranked : count_by is_ranked_mark classes + cond (is_ranked_mark mark) 1 0 ≡ count_by is_ranked_mark table.classes + cond (is_ranked_mark mark) 1 0 =
       count_set is_ranked_mark table.classes (place - 1) mark to found.1 in
-      subst (λ (l : List Mark). IsKeptWith event answers (record { classes = l; questions = questions }) withdrawn) (issued_same table.classes (place - 1) mark found.1)
+      subst (λ (l : List Mark). KeepsWith event answers (record { classes = l; questions = questions }) withdrawn) (issued_same table.classes (place - 1) mark found.1)
       (kept_by event answers (record { classes = classes; questions = questions }) is may refl (kept.answered ∙ sym same) refl
       (subst (λ (n : ℕ). IsTableOf listed (history ++ event ∷ []) n (record { classes = classes; questions = questions })) (sym answers_len)
       (table_issue listed history sound table table_now desk place plus minus mark may.class.0 found.1 before))
@@ -274,7 +271,7 @@ module _ (listed : Listed) (history : List Event) (answers : AnswersWithRoom) (t
       → IsEvent listed.criteria.levels (Commit desk number side plus minus point) → MayCommit listed history number side plus minus point
       → slice_get table.questions (number - 1) ≡ Some question → slice_get listed.classes (question.place - 1) ≡ Some pair
       → after.answers ≡ answers.answers ++ record { pair = pair; side = side } ∷ [] → room_of after ≡ room_of answers
-      → IsKeptWith (Commit desk number side plus minus point) after
+      → KeepsWith (Commit desk number side plus minus point) after
       (record {
         classes = with_ranking table.classes (question.place - 1) (CommittedBy (length answers.answers + 1));
         questions = with_ending table.questions (number - 1) (Committed (length answers.answers + 1));
@@ -284,7 +281,7 @@ module _ (listed : Listed) (history : List Event) (answers : AnswersWithRoom) (t
       let place : ℕ = question.place in
       let given : Answer = record { pair = pair; side = side } in
       let level : ℕ = length answers.answers + 1 in
-      let here : IsPlace listed place = place_at listed history answers table withdrawn room kept number question asks in
+      let here : IsPlace listed place = place_at listed history answers table withdrawn room kept number question (asked_within number may.open_question).0 asks in
       let found : (mark : Mark) × (slice_get table.classes (place - 1) ≡ Some mark) = mark_found place here in
       let mark : Mark = found.0 in
       let before : mark.ranking ≡ Unranked = unranked_mark place mark here (commit_unranked number side plus minus point question may asks) found.1 in
@@ -294,16 +291,16 @@ module _ (listed : Listed) (history : List Event) (answers : AnswersWithRoom) (t
       let gone : Question = record { place = place; ending = Committed level } in
       let classes : List Mark = slice_set table.classes (place - 1) to in
       let questions : List Question = slice_set table.questions (number - 1) gone in
-      let asks_place : place_of (issued history) number ≡ Some place = asks_at listed history answers table withdrawn room kept number question asks in
+      let asks_place : place_of (issued history) number ≡ Some place = asks_at kept.table_of number question within.0 asks in
       let asks_pair : class_of listed.classes (issued history) number ≡ Some pair =
-      ap (λ (o : Option ℕ). option_and_then (class_at listed.classes) o) asks_place ∙ class in
+      ap (λ (o : Option ℕ). option_and_then (class_at listed.classes) o) asks_place ∙ item_of listed.classes place pair here.0 class in
       let same : committed listed.classes (history ++ event ∷ []) ≡ committed listed.classes history ++ given ∷ [] =
       committed-push listed history sound event refl (standing-push history event)
       ∙ ap (λ (o : Option Pair). committed listed.classes history ++ cons_option (option_map (λ p. record { pair = p; side = side }) o) []) asks_pair in
       let more : length after.answers ≡ length answers.answers + 1 = ap (λ (l : List Answer). length l) pushed ∙ length-append answers.answers (given ∷ []) in
-      subst (λ (l : List Mark). IsKeptWith event after (record { classes = l; questions = with_ending table.questions (number - 1) (Committed level) }) withdrawn)
+      subst (λ (l : List Mark). KeepsWith event after (record { classes = l; questions = with_ending table.questions (number - 1) (Committed level) }) withdrawn)
       (ranked_same table.classes (place - 1) (CommittedBy level) mark found.1)
-      (subst (λ (l : List Question). IsKeptWith event after (record { classes = classes; questions = l }) withdrawn) (ended_same table.questions (number - 1) (Committed level) question asks)
+      (subst (λ (l : List Question). KeepsWith event after (record { classes = classes; questions = l }) withdrawn) (ended_same table.questions (number - 1) (Committed level) question asks)
       (kept_by event after (record { classes = classes; questions = questions }) is may refl
       (pushed ∙ ap (λ (l : List Answer). l ++ given ∷ []) kept.answered ∙ sym same) same_room
       (subst (λ (n : ℕ). IsTableOf listed (history ++ event ∷ []) n (record { classes = classes; questions = questions })) (sym more)
@@ -321,7 +318,7 @@ module _ (listed : Listed) (history : List Event) (answers : AnswersWithRoom) (t
       ))))
 
   pub kept_close : (desk number : ℕ) → IsEvent listed.criteria.levels (Close desk number) → MayClose history number
-      → IsKeptWith (Close desk number) answers
+      → KeepsWith (Close desk number) answers
       (record { classes = table.classes; questions = with_ending table.questions (number - 1) (Closed (length answers.answers)) }) withdrawn
   kept_close desk number is may =
       let event : Event = Close desk number in
@@ -334,7 +331,7 @@ module _ (listed : Listed) (history : List Event) (answers : AnswersWithRoom) (t
       let questions : List Question = slice_set table.questions (number - 1) gone in
       let same : committed listed.classes (history ++ event ∷ []) ≡ committed listed.classes history =
       committed-push listed history sound event refl (standing-push history event) ∙ append-nil (committed listed.classes history) in
-      subst (λ (l : List Question). IsKeptWith event answers (record { classes = table.classes; questions = l }) withdrawn)
+      subst (λ (l : List Question). KeepsWith event answers (record { classes = table.classes; questions = l }) withdrawn)
       (ended_same table.questions (number - 1) (Closed level) question found.1)
       (kept_by event answers (record { classes = table.classes; questions = questions }) is may refl (kept.answered ∙ sym same) refl
       (subst (λ (n : ℕ). IsTableOf listed (history ++ event ∷ []) n
@@ -344,7 +341,7 @@ module _ (listed : Listed) (history : List Event) (answers : AnswersWithRoom) (t
 
   pub kept_withdraw : (desk n : ℕ) (after : AnswersWithRoom) → IsEvent listed.criteria.levels (Withdraw desk n) → MayWithdraw listed history n
       → after.answers ≡ take (n - 1) answers.answers → room_of after ≡ room_of answers
-      → IsKeptWith (Withdraw desk n) after (record { classes = map (left_mark n) table.classes; questions = map (left_question n) table.questions }) (withdrawn + 1)
+      → KeepsWith (Withdraw desk n) after (record { classes = map (left_mark n) table.classes; questions = map (left_question n) table.questions }) (withdrawn + 1)
   kept_withdraw desk n after is may cut same_room =
       let event : Event = Withdraw desk n in
       let classes : List Mark = map (left_mark n) table.classes in
@@ -356,13 +353,13 @@ module _ (listed : Listed) (history : List Event) (answers : AnswersWithRoom) (t
       let less : length after.answers ≡ length answers.answers - 1 =
       ap (λ (l : List Answer). length l) cut ∙ length-take (n - 1) answers.answers ∙ omega (arith, last) in
       let made : withdrawals (history ++ event ∷ []) ≡ withdrawals history + 1 = sum_by_push (λ e. cond (is_withdraw e) 1 0) history event in
-      let spend : 3 * c + 2 * c * (withdrawn + 1) + (withdrawn + 1) ≤ 131072 =
-      subst (λ (w : ℕ). 3 * c + 2 * c * (w + 1) + (w + 1) ≤ 131072) (sym kept.withdrawals_made) (unspent_yes c (withdrawals history) may.unspent) in
+      let spend : most_events c (withdrawn + 1) ≤ MAX_EVENTS =
+      subst (λ (w : ℕ). most_events c (w + 1) ≤ MAX_EVENTS) (sym kept.withdrawals_made) may.unspent in
       let few_open : count_by is_open_mark questions ≤ length table.questions =
       omega (arith, count_by-le-length is_open_mark questions, length-map (left_question n) table.questions) in
       record {
         model = kept.model;
-        legal = legal_push listed history event kept.legal is may;
+        legal = legal_push listed history event kept.legal is (unnamed listed history event may);
         answered =
             cut ∙ ap (λ (k : ℕ). take k answers.answers) (omega (arith, may.last_answer.1))
             ∙ ap (λ (l : List Answer). take (length (committed listed.classes history) - 1) l) kept.answered ∙ sym same;
@@ -405,7 +402,7 @@ module _ (listed : Listed) (history : List Event) (answers : AnswersWithRoom) (t
 
   -- an event has room where less than all is done
   length_less : 2 * length table.questions + count_by is_ranked_mark table.classes + 1
-      ≤ 3 * length listed.classes + count_by is_open_mark table.questions + length answers.answers → length history < 131072
+      ≤ 3 * length listed.classes + count_by is_open_mark table.questions + length answers.answers → length history < MAX_EVENTS
   length_less left =
       let c : ℕ = length listed.classes in
       omega (arith, kept.short, kept.unspent, left, mul-add withdrawn (2 * c) 1, mul_comm withdrawn (2 * c))
@@ -419,7 +416,7 @@ module _ (listed : Listed) (history : List Event) (answers : AnswersWithRoom) (t
       let within : (1 ≤ number) × (number ≤ length table.questions) = asked_within number is in
       slice_get_inside table.questions (number - 1) (omega (arith, within.0, within.1))
 
-  length_open : (number : ℕ) → IsOpenQuestion history number → length history < 131072
+  length_open : (number : ℕ) → IsOpenQuestion history number → length history < MAX_EVENTS
   length_open number is =
       let found : (question : Question) × (slice_get table.questions (number - 1) ≡ Some question) = question_found number is in
       length_less (omega (
@@ -431,7 +428,7 @@ module _ (listed : Listed) (history : List Event) (answers : AnswersWithRoom) (t
       ))
 
   -- there is room for what may follow
-  pub room_next : (event : Event) → MayFollow listed history event → length history < 131072
+  pub room_next : (event : Event) → HasParts listed history event → length history < MAX_EVENTS
   room_next (Eliminate worker place verdict combination) may =
       let found : (mark : Mark) × (slice_get table.classes (place - 1) ≡ Some mark) = mark_found place may.class in
       let before : found.0.ranking ≡ Unranked = unranked_mark place found.0 may.class may.unranked found.1 in
@@ -461,21 +458,35 @@ module _ (listed : Listed) (history : List Event) (answers : AnswersWithRoom) (t
 
   -- ---- the class of a question that may be committed, by its place
   abbrev pub AsksPlace : ℕ → ℕ → Type 0
-  AsksPlace number place = option_map (λ (q : Question). q.place) (slice_get table.questions (number - 1)) ≡ Some place
+  AsksPlace number place = option_map (λ (q : Question). q.place) (item_at table.questions number) ≡ Some place
 
-  abbrev Asking : ℕ → ℕ → Type 0
-  Asking number place = (question : Question) × (slice_get table.questions (number - 1) ≡ Some question) × (question.place ≡ place)
+  record Asking (number place : ℕ) : Type 0 where
+    question : Question
+    low : 1 ≤ number
+    found : slice_get table.questions (number - 1) ≡ Some question
+    asked : question.place ≡ place
 
   asking : (number place : ℕ) → AsksPlace number place → Asking number place
-  asking number place asks = map_some (λ (q : Question). q.place) (slice_get table.questions (number - 1)) place asks
+  asking number place asks =
+      let found : (question : Question) × (item_at table.questions number ≡ Some question) × (question.place ≡ place) =
+      map_some (λ (q : Question). q.place) (item_at table.questions number) place asks in
+      record {
+        question = found.0;
+        low = item_positive table.questions number found.0 found.1;
+        found = item_found table.questions number found.0 found.1;
+        asked = found.2;
+      }
 
-  pub asks_question : (number : ℕ) (question : Question) → slice_get table.questions (number - 1) ≡ Some question → AsksPlace number question.place
-  asks_question number question at = ap (λ (o : Option Question). option_map (λ (q : Question). q.place) o) at
+  pub asks_question : (number : ℕ) (question : Question) → 1 ≤ number → slice_get table.questions (number - 1) ≡ Some question
+      → AsksPlace number question.place
+  asks_question number question low at =
+      ap (λ (o : Option Question). option_map (λ (q : Question). q.place) o) (item_of table.questions number question low at)
 
   pub asked_class : (number place : ℕ) → AsksPlace number place → IsPlace listed place
   asked_class number place asks =
       let found : Asking number place = asking number place asks in
-      subst (λ (n : ℕ). IsPlace listed n) found.2 (place_at listed history answers table withdrawn room kept number found.0 found.1)
+      subst (λ (n : ℕ). IsPlace listed n) found.asked
+      (place_at listed history answers table withdrawn room kept number found.question found.low found.found)
 
   pub asked_within_marks : (number place : ℕ) → AsksPlace number place → place ≤ length table.classes
   asked_within_marks number place asks = omega (arith, (asked_class number place asks).1, classes_len)
@@ -485,7 +496,7 @@ module _ (listed : Listed) (history : List Event) (answers : AnswersWithRoom) (t
   asked_unranked number side plus minus point place mark may asks at =
       let found : Asking number place = asking number place asks in
       unranked_mark place mark (asked_class number place asks)
-      (ap (λ n. is_ranked history n) (sym found.2) ∙ commit_unranked number side plus minus point found.0 may found.1) at
+      (ap (λ n. is_ranked history n) (sym found.asked) ∙ commit_unranked number side plus minus point found.question may found.found) at
 
   pub commit_room : (number : ℕ) (side : Side) (plus minus point : List ℤ) (place : ℕ) → MayCommit listed history number side plus minus point
       → AsksPlace number place → 1 ≤ answers.spare
@@ -497,26 +508,27 @@ module _ (listed : Listed) (history : List Event) (answers : AnswersWithRoom) (t
       → IsEvent listed.criteria.levels (Commit desk number side plus minus point) → MayCommit listed history number side plus minus point
       → AsksPlace number place → level ≡ length answers.answers → slice_get listed.classes (place - 1) ≡ Some pair
       → after.answers ≡ answers.answers ++ record { pair = pair; side = side } ∷ [] → room_of after ≡ room_of answers
-      → IsKeptWith (Commit desk number side plus minus point) after (record {
+      → KeepsWith (Commit desk number side plus minus point) after (record {
         classes = with_ranking table.classes (place - 1) (CommittedBy (level + 1));
         questions = with_ending table.questions (number - 1) (Committed (level + 1));
       }) withdrawn
   kept_commit_at desk number side plus minus point place level pair after is may asks count class pushed same_room =
       let found : Asking number place = asking number place asks in
-      let here : slice_get listed.classes (found.0.place - 1) ≡ Some pair = subst (λ (n : ℕ). slice_get listed.classes (n - 1) ≡ Some pair) (sym found.2) class in
-      subst (λ (k : ℕ). IsKeptWith (Commit desk number side plus minus point) after (record {
+      let here : slice_get listed.classes (found.question.place - 1) ≡ Some pair = subst (λ (n : ℕ). slice_get listed.classes (n - 1) ≡ Some pair) (sym found.asked) class in
+      subst (λ (k : ℕ). KeepsWith (Commit desk number side plus minus point) after (record {
         classes = with_ranking table.classes (place - 1) (CommittedBy (k + 1));
         questions = with_ending table.questions (number - 1) (Committed (k + 1));
       }) withdrawn) (sym count)
-      (subst (λ (n : ℕ). IsKeptWith (Commit desk number side plus minus point) after (record {
+      (subst (λ (n : ℕ). KeepsWith (Commit desk number side plus minus point) after (record {
         classes = with_ranking table.classes (n - 1) (CommittedBy (length answers.answers + 1));
         questions = with_ending table.questions (number - 1) (Committed (length answers.answers + 1));
-      }) withdrawn) found.2 (kept_commit desk number side plus minus point found.0 pair after is may found.1 here pushed same_room))
+      }) withdrawn) found.asked (kept_commit desk number side plus minus point found.question pair after is may found.found here pushed same_room))
 
 -- ---- as the code has it
-pub may_in : {r now : Recorded} {event arm : Event} → r ≡ now → event ≡ arm → MayFollow now.listed now.history event → MayFollow r.listed r.history arm
+pub may_in : {r now : Recorded} {event arm : Event} → r ≡ now → event ≡ arm → MayFollow now.listed now.history event → HasParts r.listed r.history arm
 may_in {r} {now} {event} {arm} view is may =
-    subst (λ (e : Event). MayFollow r.listed r.history e) is (subst (λ (q : Recorded). MayFollow q.listed q.history event) (sym view) may)
+    subst (λ (e : Event). HasParts r.listed r.history e) is
+    (subst (λ (q : Recorded). HasParts q.listed q.history event) (sym view) (named now.listed now.history event may))
 
 pub is_in : {r now : Recorded} {event arm : Event} → r ≡ now → event ≡ arm → IsEvent now.listed.criteria.levels event → IsEvent r.listed.criteria.levels arm
 is_in {r} {now} {event} {arm} view is fits =
@@ -529,10 +541,10 @@ pushed_in items after last {event} {arm} pushed value is =
     ∙ ap (λ (e : Event). map (λ (s : Snapshot Event). s.value) items ++ e ∷ []) (value ∙ is)
 
 pub kept_as : {listed : Listed} {history after : List Event} {answers : AnswersWithRoom} {table new : Table} {withdrawn room more : ℕ}
-    → IsKept listed history answers table withdrawn room → after ≡ history → new.classes ≡ table.classes → new.questions ≡ table.questions → more ≡ room
-    → IsKept listed after answers new withdrawn more
+    → KeepsHistory listed history answers table withdrawn room → after ≡ history → new.classes ≡ table.classes → new.questions ≡ table.questions → more ≡ room
+    → KeepsHistory listed after answers new withdrawn more
 kept_as {listed} {history} {after} {answers} {table} {new} {withdrawn} {room} {more} kept events classes questions capacity =
-    subst (λ (r : ℕ). IsKept listed after answers new withdrawn r) (sym capacity)
-    (subst (λ (l : List Event). IsKept listed l answers new withdrawn room) (sym events)
-    (subst (λ (l : List Mark). IsKept listed history answers (record { classes = l; questions = new.questions }) withdrawn room) (sym classes)
-    (subst (λ (l : List Question). IsKept listed history answers (record { classes = table.classes; questions = l }) withdrawn room) (sym questions) kept)))
+    subst (λ (r : ℕ). KeepsHistory listed after answers new withdrawn r) (sym capacity)
+    (subst (λ (l : List Event). KeepsHistory listed l answers new withdrawn room) (sym events)
+    (subst (λ (l : List Mark). KeepsHistory listed history answers (record { classes = l; questions = new.questions }) withdrawn room) (sym classes)
+    (subst (λ (l : List Question). KeepsHistory listed history answers (record { classes = table.classes; questions = l }) withdrawn room) (sym questions) kept)))

@@ -30,7 +30,8 @@ use Rattle.survey_core.proofs.ListSteps.{Each, Each-map, slice_get-push, slice_g
 use Rattle.survey_core.proofs.StandingLemmas.{standing-push, issued-push}
 use Rattle.survey_core.proofs.SoundLemmas.{IsSoundAt, IsSound, issued-same, resting-push, resting-withdraw}
 use Rattle.survey_core.proofs.TableLemmas.{set_cases, count_set, one_if}
-use Rattle.survey_core.proofs.ReadLemmas.{map_some}
+use Rattle.survey_core.proofs.ItemLemmas.{item_within, item_at-append}
+use Rattle.survey_core.proofs.ReadLemmas.{map_some, mark_at, question_at, issued_len, asks_at}
 
 -- ---- lists
 -- what holds of each element by its number, after one is rewritten
@@ -181,7 +182,7 @@ ranking_same : (listed : Listed) (asked more : List ℕ) (answers : List Answer)
 ranking_same listed asked more answers place level (Eliminate worker other verdict combination) s = refl
 ranking_same listed asked more answers place level (Issue desk other plus minus) s = refl
 ranking_same listed asked more answers place level (Commit desk question side plus minus point) s =
-    let longer : place_of (asked ++ more) question ≡ Some s.place = slice_get-append asked more (question - 1) s.place s.asks in
+    let longer : place_of (asked ++ more) question ≡ Some s.place = item_at-append asked more question s.place s.asks in
     rw (longer, s.asks) refl
 ranking_same listed asked more answers place level (Close desk question) s = refl
 ranking_same listed asked more answers place level (Withdraw desk answer) s = refl
@@ -193,7 +194,7 @@ unasked_unended listed asked answers number level (Eliminate worker place verdic
 unasked_unended listed asked answers number level (Issue desk place plus minus) high s = refl
 unasked_unended listed asked answers number level (Commit desk question side plus minus point) high s =
     if_no (question == number) (Committed level ∷ [])
-    (other_no question number (omega (arith, slice_get_within asked (question - 1) s.place s.asks, s.question_from_one)))
+    (other_no question number (omega (arith, item_within asked question s.place s.asks)))
 unasked_unended listed asked answers number level (Close desk question) high s =
     if_no (question == number) (Closed level ∷ []) (other_no question number (omega (arith, s.1)))
 unasked_unended listed asked answers number level (Withdraw desk answer) high s = refl
@@ -286,24 +287,6 @@ module _ (listed : Listed) (history : List Event) (sound : IsSound listed histor
   abbrev answers : List Answer
   answers = committed listed.classes history
 
-  mark_at : (place : ℕ) (mark : Mark) → 1 ≤ place → slice_get table.classes (place - 1) ≡ Some mark → IsMark history place mark
-  mark_at place mark low at =
-      let same : place - 1 + 1 ≡ place = omega arith in
-      subst (λ (n : ℕ). IsMark history n mark) same (table_of.each_class (place - 1) mark at)
-
-  question_at : (number : ℕ) (question : Question) → 1 ≤ number → slice_get table.questions (number - 1) ≡ Some question → IsQuestionMark history number question
-  question_at number question low at =
-      let same : number - 1 + 1 ≡ number = omega arith in
-      subst (λ (n : ℕ). IsQuestionMark history n question) same (table_of.each_question (number - 1) question at)
-
-  asked_len : length (issued history) ≡ length table.questions
-  asked_len = ap (λ (l : List ℕ). length l) (sym table_of.places) ∙ length-map (λ (q : Question). q.place) table.questions
-
-  question_asks : (number : ℕ) (question : Question) → slice_get table.questions (number - 1) ≡ Some question → place_of (issued history) number ≡ Some question.place
-  question_asks number question at =
-      ap (λ (l : List ℕ). slice_get l (number - 1)) (sym table_of.places)
-      ∙ slice_get-map (λ (q : Question). q.place) table.questions (number - 1) ∙ ap (λ (o : Option Question). option_map (λ (q : Question). q.place) o) at
-
   none_ended : (number : ℕ) → length (issued history) < number → endings number (resting history) ≡ []
   none_ended number high =
       flat_map-none (λ (e : Resting). ending_by number e.level e.event) (resting history)
@@ -335,7 +318,7 @@ module _ (listed : Listed) (history : List Event) (sound : IsSound listed histor
         each_class =
             each_set (IsMark history) (IsMark after) table.classes place to low table_of.each_class
             (class_ranked history after last resting_is asked_is place mark (Eliminated level) before
-            (if_yes (place == place) (Eliminated level ∷ []) (eq-eqb place place refl)) (mark_at place mark low at))
+            (if_yes (place == place) (Eliminated level ∷ []) (eq-eqb place place refl)) (mark_at table_of place mark low at))
             (λ other m differs. class_kept history after last resting_is asked_is other m (if_no (place == other) (Eliminated level ∷ []) (other_no place other differs)));
         places = table_of.places ∙ sym asked_is;
         each_question = λ k question found. question_kept history after last resting_is (k + 1) question refl (table_of.each_question k question found);
@@ -383,13 +366,13 @@ module _ (listed : Listed) (history : List Event) (sound : IsSound listed histor
         len = length-set table.classes (place - 1) to ∙ table_of.len;
         each_class =
             each_set (IsMark history) (IsMark after) table.classes place to low table_of.each_class
-            (class_after place mark true (mark_at place mark low at) (ap (λ c. mark.issued || (c || false)) (eq-eqb place place refl) ∙ or_something mark.issued))
+            (class_after place mark true (mark_at table_of place mark low at) (ap (λ c. mark.issued || (c || false)) (eq-eqb place place refl) ∙ or_something mark.issued))
             (λ other m differs is. class_after other m m.issued is (ap (λ c. m.issued || (c || false)) (other_no place other differs) ∙ or_nothing m.issued));
         places = map-append (λ (q : Question). q.place) table.questions (question ∷ []) ∙ ap (λ l. l ++ place ∷ []) table_of.places ∙ sym asked_is;
         each_question =
             each_push (IsQuestionMark history) (IsQuestionMark after) table.questions question table_of.each_question (record {
               ending =
-                  endings_after history after last resting_is (length table.questions + 1) [] [] (none_ended (length table.questions + 1) (omega (arith, asked_len))) refl;
+                  endings_after history after last resting_is (length table.questions + 1) [] [] (none_ended (length table.questions + 1) (omega (arith, issued_len table_of))) refl;
             })
             (λ other q. question_kept history after last resting_is other q refl);
         asked_count =
@@ -422,7 +405,7 @@ module _ (listed : Listed) (history : List Event) (sound : IsSound listed histor
       let gone : Question = record { place = place; ending = Committed level } in
       let resting_is : resting after ≡ resting history ++ last ∷ [] = resting-push listed history sound event (standing-push history event) in
       let asked_is : issued after ≡ issued history = issued-same history event refl in
-      let asks_place : place_of (issued history) number ≡ Some place = question_asks number question asks in
+      let asks_place : place_of (issued history) number ≡ Some place = asks_at table_of number question number_low asks in
       let commits : (other : ℕ) → commits_class (issued history) other event ≡ (place == other) =
       λ other. ap (λ (o : Option ℕ). option_map_or (λ p. p == other) o false) asks_place in
       record {
@@ -430,7 +413,7 @@ module _ (listed : Listed) (history : List Event) (sound : IsSound listed histor
         each_class =
             each_set (IsMark history) (IsMark after) table.classes place to place_low table_of.each_class
             (class_ranked history after last resting_is asked_is place mark (CommittedBy level) before
-            (if_yes (commits_class (issued history) place event) (CommittedBy level ∷ []) (commits place ∙ eq-eqb place place refl)) (mark_at place mark place_low at))
+            (if_yes (commits_class (issued history) place event) (CommittedBy level ∷ []) (commits place ∙ eq-eqb place place refl)) (mark_at table_of place mark place_low at))
             (λ other m differs.
             class_kept history after last resting_is asked_is other m
             (if_no (commits_class (issued history) other event) (CommittedBy level ∷ []) (commits other ∙ other_no place other differs)));
@@ -438,7 +421,7 @@ module _ (listed : Listed) (history : List Event) (sound : IsSound listed histor
         each_question =
             each_set (IsQuestionMark history) (IsQuestionMark after) table.questions number gone number_low table_of.each_question
             (question_ended history after last resting_is number question (Committed level) open_before
-            (if_yes (number == number) (Committed level ∷ []) (eq-eqb number number refl)) (question_at number question number_low asks))
+            (if_yes (number == number) (Committed level ∷ []) (eq-eqb number number refl)) (question_at table_of number question number_low asks))
             (λ other q differs. question_kept history after last resting_is other q (if_no (number == other) (Committed level ∷ []) (other_no number other differs)));
         asked_count =
             omega (
@@ -472,7 +455,7 @@ module _ (listed : Listed) (history : List Event) (sound : IsSound listed histor
         each_question =
             each_set (IsQuestionMark history) (IsQuestionMark after) table.questions number gone number_low table_of.each_question
             (question_ended history after last resting_is number question (Closed level) open_before
-            (if_yes (number == number) (Closed level ∷ []) (eq-eqb number number refl)) (question_at number question number_low asks))
+            (if_yes (number == number) (Closed level ∷ []) (eq-eqb number number refl)) (question_at table_of number question number_low asks))
             (λ other q differs. question_kept history after last resting_is other q (if_no (number == other) (Closed level ∷ []) (other_no number other differs)));
         asked_count = table_of.asked_count ∙ sym (length-set table.questions (number - 1) gone);
         answer_count = table_of.answer_count;

@@ -18,16 +18,18 @@ use Rattle.farkas_check.proofs.Ranking.{proved_is_ranked_lem}
 use Rattle.pair_enumeration.specs.declared.flips.Flip.{Flip}
 use Rattle.pair_enumeration.specs.declared.flips.Flip.TheVariants.{Kept, Turned}
 use Rattle.pair_enumeration.specs.Listed.{Listed}
-use Rattle.pair_enumeration.specs.Places.{flipped}
+use Rattle.pair_enumeration.specs.Places.{flipped, StandsAt}
 use Rattle.pair_enumeration.proofs.PlaceLaws.{each_pair_has_place_lem}
 use Rattle.survey_core.specs.declared.events.Event.{Event}
 use Rattle.survey_core.specs.declared.events.Event.TheVariants.{Eliminate, Issue, Commit, Close, Withdraw}
 use Rattle.survey_core.specs.Kinds.{eliminates}
 use Rattle.survey_core.specs.Histories.{standing, issued, place_of, class_at, committed, commits_class, is_eliminated, is_committed}
-use Rattle.survey_core.specs.Legal.{MayEliminate, IsLegal}
-use Rattle.survey_core.specs.Laws.{last_point, Gives, HasRanking, flipped_side, AnswersAreSatisfiable, EliminatedAreRanked, RankedHasRanking, EachHasOneRanking, RankingsAreByAnswers, ClassRanksPairs, CompleteRanksEveryPair}
+use Rattle.survey_core.specs.Legal.{IsLegal}
+use Rattle.survey_core.proofs.NamedParts.{MayEliminate, named}
+use Rattle.survey_core.specs.Laws.{last_point, GivesSide, HasRanking, flipped_side, AnswersAreSatisfiable, EliminatedAreRanked, RankedHasRanking, EachHasOneRanking, RankingsAreByAnswers, ClassRanksPairs, CompleteRanksEveryPair}
 use Rattle.survey_core.specs.Marked.{rests_on, Resting, numbered}
 use Rattle.survey_core.proofs.ListSteps.{Each, some_and}
+use Rattle.survey_core.proofs.ItemLemmas.{item_of}
 use Rattle.survey_core.proofs.StandingLemmas.{step}
 use Rattle.survey_core.proofs.SoundLemmas.{IsSoundAt, IsSound, sound_history}
 use Rattle.survey_core.proofs.LawLemmas.{last_point_meets_lem}
@@ -49,7 +51,8 @@ eliminated_are_ranked_lem listed history before after worker place verdict combi
     let front : take (length before) history ≡ before =
     ap (λ (events : List Event). take (length before) events) whole ∙ take-append_seam before (event ∷ after) in
     let may : MayEliminate listed before place verdict combination =
-    subst (λ (events : List Event). MayEliminate listed events place verdict combination) front (legal (length before) event at).1 in
+    subst (λ (events : List Event). MayEliminate listed events place verdict combination) front
+    (named listed (take (length before) history) event (legal (length before) event at).1) in
     let proved : (other : Pair) × (class_at listed.classes place ≡ Some other) × Proves levels answers combination other verdict =
     some_and (class_at listed.classes place) (λ other. Proves levels answers combination other verdict) may.proved in
     let same : proved.0 ≡ pair = same_Some proved.0 pair (sym proved.1 ∙ class) in
@@ -58,7 +61,7 @@ eliminated_are_ranked_lem listed history before after worker place verdict combi
     (proved_is_ranked_lem levels answers [] combination proved.0 verdict proved.2))
 
 -- ---- a class is ranked by an event exactly where it has a ranking
-eliminates_gives : (asked : List ℕ) (place : ℕ) (event : Event) → eliminates place event ≡ true → (side : Side) × Gives asked place event side
+eliminates_gives : (asked : List ℕ) (place : ℕ) (event : Event) → eliminates place event ≡ true → (side : Side) × GivesSide asked place event side
 eliminates_gives asked place (Eliminate worker other verdict combination) h = (verdict, (eqb-true other place h, refl))
 eliminates_gives asked place (Issue desk other plus minus) h = absurd cc
 eliminates_gives asked place (Commit desk question side plus minus point) h = absurd cc
@@ -69,14 +72,14 @@ is_place : (place : ℕ) (found : Option ℕ) → option_map_or (λ other. other
 is_place place None h = absurd cc
 is_place place (Some other) h = ap Some (eqb-true other place h)
 
-commits_gives : (asked : List ℕ) (place : ℕ) (event : Event) → commits_class asked place event ≡ true → (side : Side) × Gives asked place event side
+commits_gives : (asked : List ℕ) (place : ℕ) (event : Event) → commits_class asked place event ≡ true → (side : Side) × GivesSide asked place event side
 commits_gives asked place (Eliminate worker other verdict combination) h = absurd cc
 commits_gives asked place (Issue desk other plus minus) h = absurd cc
 commits_gives asked place (Commit desk question side plus minus point) h = (side, (is_place place (place_of asked question) h, refl))
 commits_gives asked place (Close desk question) h = absurd cc
 commits_gives asked place (Withdraw desk answer) h = absurd cc
 
-gives_either : (asked : List ℕ) (place : ℕ) (side : Side) (event : Event) → Gives asked place event side
+gives_either : (asked : List ℕ) (place : ℕ) (side : Side) (event : Event) → GivesSide asked place event side
     → (eliminates place event ≡ true) ⊎ (commits_class asked place event ≡ true)
 gives_either asked place side (Eliminate worker other verdict combination) g = inl (eq-eqb other place g.0)
 gives_either asked place side (Issue desk other plus minus) g = absurd g
@@ -92,11 +95,11 @@ ranked_has_ranking_lem history place =
       λ ranked. elim (or_cases (is_eliminated history place) (is_committed history place) ranked) [
         | inl eliminated ↦
             (let (k, event, within, at, h) = Any-from_list_any (eliminates place) events eliminated in
-            let given : (side : Side) × Gives asked place event side = eliminates_gives asked place event h in
+            let given : (side : Side) × GivesSide asked place event side = eliminates_gives asked place event h in
             (given.0, (k, event, within, at, given.1)))
         | inr given ↦
             (let (k, event, within, at, h) = Any-from_list_any (commits_class asked place) events given in
-            let given : (side : Side) × Gives asked place event side = commits_gives asked place event h in
+            let given : (side : Side) × GivesSide asked place event side = commits_gives asked place event h in
             (given.0, (k, event, within, at, given.1)))
       ],
       λ (side, (k, event, within, at, given)).
@@ -125,7 +128,7 @@ module _ (listed : Listed) (asked : List ℕ) (answers : List Answer) where
   abbrev pub RankedAt : ℕ → Side → Type 0
   RankedAt place side = (pair : Pair) × (class_at listed.classes place ≡ Some pair) × IsRanked listed.criteria.levels answers pair side
 
-  given_ranked : (level place : ℕ) (side : Side) (event : Event) → IsSoundAt listed asked answers level event → Gives asked place event side → RankedAt place side
+  given_ranked : (level place : ℕ) (side : Side) (event : Event) → IsSoundAt listed asked answers level event → GivesSide asked place event side → RankedAt place side
   given_ranked level place side (Eliminate worker other verdict combination) s g = (
     s.pair,
     ap (λ k. class_at listed.classes k) (sym g.0) ∙ s.class,
@@ -186,6 +189,9 @@ each_has_one_ranking_lem listed history place one other model legal first second
     ranks_once levels met.0 a.0 one other (a.2 met.0 met.1) (b met.0 met.1)
 
 -- ---- every pair that a class stands for
+at_stand : {classes : List Pair} {place : ℕ} {pair : Pair} → StandsAt classes place pair → class_at classes place ≡ Some pair
+at_stand {classes} {place} {pair} stands = item_of classes place pair stands.positive stands.found
+
 turned_ranks : (levels : List ℕ) (values : List ℤ) (a b : List ℕ) (side : Side) → Ranks levels values (record { left = b; right = a }) side
     → Ranks levels values (record { left = a; right = b }) (turned_side side)
 turned_ranks levels values a b Left h = h
@@ -199,25 +205,25 @@ flipped_ranks levels values a b Turned side h = turned_ranks levels values a b s
 
 pub class_ranks_pairs_lem : ClassRanksPairs
 class_ranks_pairs_lem listed answers place side pair a b flip class ranked stands =
-    let same : pair ≡ stands.pair = same_Some pair stands.pair (sym class ∙ stands.stands.found) in
+    let same : pair ≡ stands.pair = same_Some pair stands.pair (sym class ∙ at_stand stands.stands) in
     λ values meets.
     flipped_ranks listed.criteria.levels values a b flip side
     (replicas_rank_same_lem listed.criteria.levels values stands.pair (flipped flip a b) side stands.replica
     (subst (λ (p : Pair). Ranks listed.criteria.levels values p side) same (ranked values meets)))
 
 pub complete_ranks_every_pair_lem : CompleteRanksEveryPair
-complete_ranks_every_pair_lem listed history model legal complete a b first second needs =
+complete_ranks_every_pair_lem listed history model legal each a b first second needs =
     let answers : List Answer = committed listed.classes history in
     let (place, flip, class) = each_pair_has_place_lem listed a b model first second needs in
     let within : place - 1 < length listed.classes = slice_get_within listed.classes (place - 1) class.pair class.stands.found in
-    let found : (side : Side) × HasRanking history place side = (ranked_has_ranking_lem history place).0 (complete place (class.stands.positive, omega arith)) in
+    let found : (side : Side) × HasRanking history place side = (ranked_has_ranking_lem history place).0 (each place (class.stands.positive, omega arith)) in
     let by : IsRanked listed.criteria.levels answers class.pair found.0 =
-    rankings_are_by_answers_lem listed history place found.0 class.pair legal found.1 class.stands.found in
+    rankings_are_by_answers_lem listed history place found.0 class.pair legal found.1 (at_stand class.stands) in
     record {
       place = place;
       flip = flip;
       side = found.0;
       class = class;
       ranking = found.1;
-      ranked = class_ranks_pairs_lem listed answers place found.0 class.pair a b flip class.stands.found by class;
+      ranked = class_ranks_pairs_lem listed answers place found.0 class.pair a b flip (at_stand class.stands) by class;
     }

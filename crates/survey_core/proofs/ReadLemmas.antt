@@ -5,7 +5,7 @@ use Rattle.std.specs.List.{filter, filter_map, flat_map, list_any, count_by, ran
 use Rattle.std.proofs.lemmas.List.Concat.{flat_map-cons}
 use Rattle.std.proofs.lemmas.List.Folds.{list_any-append}
 use Rattle.std.proofs.lemmas.List.Sums.{sum_by-cons}
-use Rattle.std.proofs.lemmas.Option.{none-some, same_Some, slice_get_within, get_or_from_slice_get}
+use Rattle.std.proofs.lemmas.Option.{none-some, same_Some, slice_get_within, slice_get-map, get_or_from_slice_get}
 use Rattle.std.proofs.lemmas.Bool.{cases_lt}
 use Rattle.criteria_model.proofs.RowLemmas.{length-map}
 use Rattle.criteria_model.specs.declared.pairs.Side.{Side}
@@ -23,8 +23,9 @@ use Rattle.survey_core.specs.declared.marks.Mark.{Mark}
 use Rattle.survey_core.specs.declared.marks.Question.{Question}
 use Rattle.survey_core.specs.Kinds.{eliminates}
 use Rattle.survey_core.specs.Histories.{standing, issued, class_at, class_of, place_of, answer_of, committed, ends, is_unended, open_questions, is_eliminated, commits_class, is_committed, is_ranked}
-use Rattle.survey_core.specs.Marked.{Resting, numbered, resting, ranking_by, marked_rankings, ending_by, marked_endings, is_ranking, is_elimination, is_open, is_open_mark, IsMark, IsQuestionMark}
+use Rattle.survey_core.specs.Marked.{Resting, numbered, resting, ranking_by, marked_rankings, ending_by, marked_endings, is_ranking, is_elimination, is_open, is_open_mark, Table, IsMark, IsQuestionMark, IsTableOf}
 use Rattle.survey_core.proofs.ListSteps.{Each, Each-All, and_then_some}
+use Rattle.survey_core.proofs.ItemLemmas.{item_of, item_found}
 use Rattle.survey_core.proofs.StandingLemmas.{step}
 
 any_flat : {X Y : Type 0} (f : X → List Y) (q : Y → Bool) (p : X → Bool) → ((x : X) → list_any q (f x) ≡ p x) → (xs : List X)
@@ -189,7 +190,7 @@ given_fits listed asked model question side answer is =
     let given : (pair : Pair) × (class_of listed.classes asked question ≡ Some pair) × (made pair ≡ answer) = map_some made (class_of listed.classes asked question) answer is in
     let at : (place : ℕ) × (place_of asked question ≡ Some place) × (class_at listed.classes place ≡ Some given.0) =
     and_then_some (class_at listed.classes) (place_of asked question) given.0 given.1 in
-    subst (λ (a : Answer). IsFit listed.criteria.levels a.pair) given.2 (class_fits listed (at.0 - 1) given.0 model at.2)
+    subst (λ (a : Answer). IsFit listed.criteria.levels a.pair) given.2 (class_fits listed (at.0 - 1) given.0 model (item_found listed.classes at.0 given.0 at.2))
 
 answer_fits : (listed : Listed) (asked : List ℕ) → IsListed listed → (event : Event) (answer : Answer) → answer_of listed.classes asked event ≡ Some answer
     → IsFit listed.criteria.levels answer.pair
@@ -211,3 +212,27 @@ pub answers_fit : (listed : Listed) (history : List Event) → IsListed listed �
 answers_fit listed history model =
     Each-All (λ (answer : Answer). IsFit listed.criteria.levels answer.pair) (committed listed.classes history)
     (each_given (answer_of listed.classes (issued history)) (λ answer. IsFit listed.criteria.levels answer.pair) (answer_fits listed (issued history) model) (standing history))
+
+-- ---- the table of a history
+module _ {listed : Listed} {history : List Event} {answers : ℕ} {table : Table} (table_of : IsTableOf listed history answers table) where
+  pub mark_at : (place : ℕ) (mark : Mark) → 1 ≤ place → slice_get table.classes (place - 1) ≡ Some mark → IsMark history place mark
+  mark_at place mark low at =
+      let same : place - 1 + 1 ≡ place = omega arith in
+      subst (λ (n : ℕ). IsMark history n mark) same (table_of.each_class (place - 1) mark at)
+
+  pub question_at : (number : ℕ) (question : Question) → 1 ≤ number → slice_get table.questions (number - 1) ≡ Some question
+      → IsQuestionMark history number question
+  question_at number question low at =
+      let same : number - 1 + 1 ≡ number = omega arith in
+      subst (λ (n : ℕ). IsQuestionMark history n question) same (table_of.each_question (number - 1) question at)
+
+  pub issued_len : length (issued history) ≡ length table.questions
+  issued_len = ap (λ (l : List ℕ). length l) (sym table_of.places) ∙ length-map (λ (q : Question). q.place) table.questions
+
+  pub asks_at : (number : ℕ) (question : Question) → 1 ≤ number → slice_get table.questions (number - 1) ≡ Some question
+      → place_of (issued history) number ≡ Some question.place
+  asks_at number question low at =
+      item_of (issued history) number question.place low
+      (ap (λ (l : List ℕ). slice_get l (number - 1)) (sym table_of.places)
+      ∙ slice_get-map (λ (q : Question). q.place) table.questions (number - 1)
+      ∙ ap (λ (o : Option Question). option_map (λ (q : Question). q.place) o) at)

@@ -10,19 +10,21 @@ use Rattle.pair_enumeration.specs.Listed.{Listed, IsListed}
 use Rattle.survey_core.specs.declared.events.Event.{Event}
 use Rattle.survey_core.specs.declared.events.Event.TheVariants.{Eliminate, Issue, Commit, Close, Withdraw}
 use Rattle.survey_core.specs.declared.marks.Question.{Question}
-use Rattle.survey_core.specs.Legal.{IsEvent, MayCommit, MayWithdraw, MayFollow, IsLegal}
+use Rattle.survey_core.specs.declared.limits.TheConstants.{MAX_EVENTS}
+use Rattle.survey_core.specs.Legal.{IsEvent, MayFollow, IsLegal}
+use Rattle.survey_core.proofs.NamedParts.{MayCommit, MayWithdraw, HasParts, named}
 use Rattle.survey_core.specs.Laws.{IsShort}
-use Rattle.survey_core.specs.Marked.{Table, is_ranked_mark, IsKept}
+use Rattle.survey_core.specs.Marked.{Table, is_ranked_mark, KeepsHistory}
 use Rattle.survey_core.proofs.ListSteps.{slice_get_inside, take_next, take_whole}
 use Rattle.survey_core.proofs.NewLemmas.{new_kept}
-use Rattle.survey_core.proofs.NextKept.{question_found, asks_question, asked_class, commit_room, kept_eliminate, kept_issue, kept_commit_at, kept_close, kept_withdraw}
+use Rattle.survey_core.proofs.NextKept.{asked_within, question_found, asks_question, asked_class, commit_room, kept_eliminate, kept_issue, kept_commit_at, kept_close, kept_withdraw}
 
 -- what could be kept of a history
 record Keeps (listed : Listed) (history : List Event) : Type 0 where
   answers : AnswersWithRoom
   table : Table
   withdrawn : ℕ
-  kept : IsKept listed history answers table withdrawn 131072
+  kept : KeepsHistory listed history answers table withdrawn MAX_EVENTS
 
 module _ (listed : Listed) (history : List Event) (now : Keeps listed history) where
   keeps_commit : (desk number : ℕ) (side : Side) (plus minus point : List ℤ) → IsEvent listed.criteria.levels (Commit desk number side plus minus point)
@@ -31,7 +33,8 @@ module _ (listed : Listed) (history : List Event) (now : Keeps listed history) w
       let found : (question : Question) × (slice_get now.table.questions (number - 1) ≡ Some question) =
       question_found _ _ _ _ _ _ now.kept number may.open_question in
       let place : ℕ = found.0.place in
-      let asks = asks_question _ _ _ _ _ _ now.kept number found.0 found.1 in
+      let low : 1 ≤ number = (asked_within _ _ _ _ _ _ now.kept number may.open_question).0 in
+      let asks = asks_question _ _ _ _ _ _ now.kept number found.0 low found.1 in
       let here = asked_class _ _ _ _ _ _ now.kept number place asks in
       let class : (pair : Pair) × (slice_get listed.classes (place - 1) ≡ Some pair) = slice_get_inside listed.classes (place - 1) (omega (arith, here.0, here.1)) in
       let given : Answer = record { pair = class.0; side = side } in
@@ -60,7 +63,7 @@ module _ (listed : Listed) (history : List Event) (now : Keeps listed history) w
             (omega (arith, count, may.last_answer.0, length-take (n - 1) now.answers.answers));
       }
 
-  keeps_next : (event : Event) → IsEvent listed.criteria.levels event → MayFollow listed history event → Keeps listed (history ++ event ∷ [])
+  keeps_next : (event : Event) → IsEvent listed.criteria.levels event → HasParts listed history event → Keeps listed (history ++ event ∷ [])
   keeps_next (Eliminate worker place verdict combination) is may = record {
     answers = now.answers;
     table = _;
@@ -82,7 +85,7 @@ module _ (listed : Listed) (history : List Event) (now : Keeps listed history) w
   }
   keeps_next (Withdraw desk answer) is may = keeps_withdraw desk answer is may
 
-  short_now : length history ≤ 131072
+  short_now : length history ≤ MAX_EVENTS
   short_now =
       let c : ℕ = length listed.classes in
       omega (
@@ -104,16 +107,16 @@ keeps_first listed history model legal zero within =
       answers = answers;
       table = _;
       withdrawn = 0;
-      kept = new_kept listed answers 131072 model (omega (arith, model.len, model.model.few_classes)) refl (omega arith) (omega arith);
+      kept = new_kept listed answers MAX_EVENTS model (omega (arith, model.len, model.model.few_classes)) refl (omega arith) (omega arith);
     }
 keeps_first listed history model legal (suc k) within =
     let found : (event : Event) × (slice_get history k ≡ Some event) = slice_get_inside history k (omega arith) in
     let before : Keeps listed (take k history) = keeps_first listed history model legal k (omega arith) in
     subst (λ (events : List Event). Keeps listed events) (sym (take_next history k found.0 found.1))
-    (keeps_next listed (take k history) before found.0 (legal k found.0 found.1).0 (legal k found.0 found.1).1)
+    (keeps_next listed (take k history) before found.0 (legal k found.0 found.1).0 (named listed (take k history) found.0 (legal k found.0 found.1).1))
 
 pub legal_is_short_lem : IsShort
 legal_is_short_lem listed history model legal =
     let whole : take (length history) history ≡ history = take_whole (length history) history (omega arith) in
-    subst (λ (events : List Event). length events ≤ 131072) whole
+    subst (λ (events : List Event). length events ≤ MAX_EVENTS) whole
     (short_now listed (take (length history) history) (keeps_first listed history model legal (length history) (omega arith)))

@@ -17,9 +17,11 @@ use Rattle.survey_core.specs.declared.events.Event.{Event}
 use Rattle.survey_core.specs.declared.events.Event.TheVariants.{Eliminate, Issue, Commit, Close, Withdraw}
 use Rattle.survey_core.specs.Kinds.{issued_place}
 use Rattle.survey_core.specs.Histories.{standing, issued, is_issued, is_unended, place_of, class_at, class_of, answer_of, committed}
-use Rattle.survey_core.specs.Legal.{IsPlace, MayEliminate, MayIssue, MayCommit, MayClose, MayWithdraw, MayFollow, IsLegal}
+use Rattle.survey_core.specs.Legal.{IsPlace, MayFollow, IsLegal}
+use Rattle.survey_core.proofs.NamedParts.{MayEliminate, MayIssue, MayCommit, MayClose, MayWithdraw, HasParts, named}
 use Rattle.survey_core.specs.Marked.{greatest_cited, rests_on, Resting, numbered, resting}
 use Rattle.survey_core.proofs.ListSteps.{Each, Each-append, Each-map, Each-filter, All-Each, slice_get-take, slice_get-append, slice_get-push, slice_get-last, take-take, filter_map-same, some_and, and_then_some, any_at, filtered_range, take_whole, slice_get_inside, take_next}
+use Rattle.survey_core.proofs.ItemLemmas.{item_at-append}
 use Rattle.survey_core.proofs.StandingLemmas.{standing-push, issued-push, commit_count, numbered-append, CitesUpTo, numbered-without, OfCommits, length-filter_map, filter_map-without, Each-events}
 use Rattle.survey_core.proofs.CitedLemmas.{greatest_within, ranked_by_cited}
 
@@ -77,7 +79,7 @@ sound_longer listed asked more answers others level (Commit desk question side p
   within = omega (arith, s.within, length-append answers others);
   question_from_one = s.question_from_one;
   place = s.place;
-  asks = slice_get-append asked more (question - 1) s.place s.asks;
+  asks = item_at-append asked more question s.place s.asks;
   pair = s.pair;
   class = s.class;
   answer = slice_get-append answers others (level - 1) (record { pair = s.pair; side = side }) s.answer;
@@ -129,7 +131,7 @@ same_answer : (listed : Listed) (asked more : List ℕ) (answers : List Answer) 
 same_answer listed asked more answers level (Eliminate worker place verdict combination) s = refl
 same_answer listed asked more answers level (Issue desk place plus minus) s = refl
 same_answer listed asked more answers level (Commit desk question side plus minus point) s =
-    let longer : place_of (asked ++ more) question ≡ Some s.place = slice_get-append asked more (question - 1) s.place s.asks in
+    let longer : place_of (asked ++ more) question ≡ Some s.place = item_at-append asked more question s.place s.asks in
     rw (longer, s.asks) refl
 same_answer listed asked more answers level (Close desk question) s = refl
 same_answer listed asked more answers level (Withdraw desk answer) s = refl
@@ -199,7 +201,7 @@ module _ (listed : Listed) (history : List Event) (sound : IsSound listed histor
       → resting (history ++ Withdraw desk n ∷ []) ≡ filter (λ e. nat_lt e.level n) (resting history)
   resting-withdraw desk n some count =
       ap (λ events. numbered 0 events) (standing-push history (Withdraw desk n))
-      ∙ numbered-without 0 n (standing history) (omega (arith, answers_count)) some
+      ∙ numbered-without n (standing history) (omega (arith, answers_count)) some
       (subst (λ (k : ℕ). Each (CitesUpTo k) (standing history)) (sym count) each_cites)
 
   -- any other event is put at the end
@@ -313,7 +315,7 @@ module _ (listed : Listed) (history : List Event) (sound : IsSound listed histor
         within = omega (arith, length-append answers (given ∷ []));
         question_from_one = (filtered_range (is_unended history) 1 (length asked) question may.open_question).0;
         place = at.0;
-        asks = slice_get-append asked [] (question - 1) at.0 at.1;
+        asks = item_at-append asked [] question at.0 at.1;
         pair = met.0;
         class = at.2;
         answer = subst (λ (k : ℕ). slice_get (answers ++ given ∷ []) k ≡ Some given) last (slice_get-last answers given);
@@ -344,7 +346,7 @@ module _ (listed : Listed) (history : List Event) (sound : IsSound listed histor
       }
 
   -- what may follow keeps it
-  pub sound_next : (event : Event) → MayFollow listed history event → IsSound listed (history ++ event ∷ [])
+  pub sound_next : (event : Event) → HasParts listed history event → IsSound listed (history ++ event ∷ [])
   sound_next (Eliminate worker place verdict combination) may = sound_eliminate worker place verdict combination may
   sound_next (Issue desk place plus minus) may = sound_issue desk place plus minus may
   sound_next (Commit desk question side plus minus point) may = sound_commit desk question side plus minus point may
@@ -357,7 +359,7 @@ sound_first listed history legal (suc k) within =
     let found : (event : Event) × (slice_get history k ≡ Some event) = slice_get_inside history k (omega arith) in
     let before : IsSound listed (take k history) = sound_first listed history legal k (omega arith) in
     subst (λ (events : List Event). IsSound listed events) (sym (take_next history k found.0 found.1))
-    (sound_next listed (take k history) before found.0 (legal k found.0 found.1).1)
+    (sound_next listed (take k history) before found.0 (named listed (take k history) found.0 (legal k found.0 found.1).1))
 
 -- a legal history is sound
 pub sound_history : (listed : Listed) (history : List Event) → IsLegal listed history → IsSound listed history

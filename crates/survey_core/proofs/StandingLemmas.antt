@@ -1,5 +1,5 @@
 -- What stands after one more event.
-use Rattle.std.proofs.Common.{◌≡◌, ℕ, zero, suc, ◌+◌, ◌-◌, ◌≤◌, Bool, true, false, cond, not, ◌||◌, max, nat_lt, ◌==◌, List, [], ◌∷◌, ◌++◌, length, take, Option, Some, None, refl, ap, sym, ◌∙◌, arith}
+use Rattle.std.proofs.Common.{◌≡◌, ℕ, zero, suc, ◌+◌, ◌-◌, ◌≤◌, Bool, true, false, cond, not, ◌&&◌, ◌||◌, max, nat_lt, ◌==◌, List, [], ◌∷◌, ◌++◌, length, take, Option, Some, None, refl, ap, sym, ◌∙◌, arith}
 use Rattle.std.specs.List.{filter, filter_map, list_any, cons_option}
 use Rattle.std.proofs.lemmas.List.Elements.{filter_map-append}
 use Rattle.std.proofs.lemmas.Bool.Decides.{nat_tests}
@@ -7,7 +7,7 @@ use Rattle.farkas_check.specs.declared.cites.Cite.{Cite}
 use Rattle.survey_core.specs.declared.events.Event.{Event}
 use Rattle.survey_core.specs.declared.events.Event.TheVariants.{Eliminate, Issue, Commit, Close, Withdraw}
 use Rattle.survey_core.specs.Kinds.{issued_place, is_commit, cites}
-use Rattle.survey_core.specs.Histories.{standing, standing_after, issued, is_taken, without_answer}
+use Rattle.survey_core.specs.Histories.{standing, standing_after, issued, is_taken, without_taken, without_answer}
 use Rattle.survey_core.specs.Marked.{greatest_cited, rests_on, Resting, numbered}
 use Rattle.survey_core.proofs.ListSteps.{Each, fold-push}
 
@@ -83,7 +83,7 @@ commit_taken before n later count =
 
 -- a withdrawal takes out what rests on all answers
 pub is_taken_level : (before n : ℕ) (event : Event) (later : List Event) → n ≡ before + (step event + commit_count later) → 1 ≤ n → CitesUpTo n event
-    → is_taken n later event ≡ not (nat_lt (rests_on before event) n)
+    → is_taken n true later event ≡ not (nat_lt (rests_on before event) n)
 is_taken_level before n (Eliminate worker place verdict combination) later count some within = cites_greatest n combination.answers some within
 is_taken_level before n (Issue desk place plus minus) later count some within = cites_none n some
 is_taken_level before n (Commit desk question side plus minus point) later count some within = commit_taken (before + 1) n later (omega arith)
@@ -101,46 +101,52 @@ same_base b c event rest t head ih =
     ]
 
 -- behind the last Commit nothing is left whose number rests on what stands before it
-numbered_base : (n : ℕ) (events : List Event) → commit_count events ≡ 0 → (b c : ℕ) → numbered b (without_answer n events) ≡ numbered c (without_answer n events)
+numbered_base : (n : ℕ) (events : List Event) → commit_count events ≡ 0 → (b c : ℕ) → numbered b (without_taken n true events) ≡ numbered c (without_taken n true events)
 numbered_base n [] none b c = refl
 numbered_base n (Eliminate worker place verdict combination ∷ later) none b c =
-    same_base b c (Eliminate worker place verdict combination) (without_answer n later) (is_taken n later (Eliminate worker place verdict combination)) refl
+    same_base b c (Eliminate worker place verdict combination) (without_taken n true later) (is_taken n true later (Eliminate worker place verdict combination)) refl
     (numbered_base n later (omega arith))
 numbered_base n (Issue desk place plus minus ∷ later) none b c =
-    same_base b c (Issue desk place plus minus) (without_answer n later) false refl (numbered_base n later (omega arith))
+    same_base b c (Issue desk place plus minus) (without_taken n true later) false refl (numbered_base n later (omega arith))
 numbered_base n (Commit desk question side plus minus point ∷ later) none b c = absurd (omega arith)
 numbered_base n (Close desk question ∷ later) none b c =
     rw (any_commit_none later (omega arith)) (numbered_base n later (omega arith) b c)
 numbered_base n (Withdraw desk answer ∷ later) none b c =
-    same_base b c (Withdraw desk answer) (without_answer n later) false refl (numbered_base n later (omega arith))
+    same_base b c (Withdraw desk answer) (without_taken n true later) false refl (numbered_base n later (omega arith))
 
 not_below : (a n : ℕ) → nat_lt a n ≡ false → n ≤ a
 not_below a n h = grind (arith, nat_tests)
 
 same_without : (before n : ℕ) (event : Event) (later : List Event) → n ≡ before + (step event + commit_count later) → nat_lt (rests_on before event) n ≡ false
-    → numbered before (without_answer n later) ≡ numbered (before + step event) (without_answer n later)
-same_without before n (Eliminate worker place verdict combination) later count high = ap (λ k. numbered k (without_answer n later)) (omega arith)
-same_without before n (Issue desk place plus minus) later count high = ap (λ k. numbered k (without_answer n later)) (omega arith)
+    → numbered before (without_taken n true later) ≡ numbered (before + step event) (without_taken n true later)
+same_without before n (Eliminate worker place verdict combination) later count high = ap (λ k. numbered k (without_taken n true later)) (omega arith)
+same_without before n (Issue desk place plus minus) later count high = ap (λ k. numbered k (without_taken n true later)) (omega arith)
 same_without before n (Commit desk question side plus minus point) later count high =
     numbered_base n later (omega (arith, not_below (before + 1) n high)) before (before + 1)
-same_without before n (Close desk question) later count high = ap (λ k. numbered k (without_answer n later)) (omega arith)
-same_without before n (Withdraw desk answer) later count high = ap (λ k. numbered k (without_answer n later)) (omega arith)
+same_without before n (Close desk question) later count high = ap (λ k. numbered k (without_taken n true later)) (omega arith)
+same_without before n (Withdraw desk answer) later count high = ap (λ k. numbered k (without_taken n true later)) (omega arith)
 
--- what a withdrawal leaves is what rests on fewer answers
-pub numbered-without : (before n : ℕ) (events : List Event) → n ≡ before + commit_count events → 1 ≤ n → Each (CitesUpTo n) events
-    → numbered before (without_answer n events) ≡ filter (λ e. nat_lt e.level n) (numbered before events)
-numbered-without before n [] count some within = refl
-numbered-without before n (event ∷ later) count some within =
-    let rest : List Event = without_answer n later in
+-- what is left is what rests on fewer answers
+numbered-taken : (before n : ℕ) (events : List Event) → n ≡ before + commit_count events → 1 ≤ n → Each (CitesUpTo n) events
+    → numbered before (without_taken n true events) ≡ filter (λ e. nat_lt e.level n) (numbered before events)
+numbered-taken before n [] count some within = refl
+numbered-taken before n (event ∷ later) count some within =
+    let rest : List Event = without_taken n true later in
     let left : List Resting = filter (λ e. nat_lt e.level n) (numbered (before + step event) later) in
     let head : Resting = record { level = rests_on before event; event = event } in
-    let ih : numbered (before + step event) rest ≡ left = numbered-without (before + step event) n later (omega arith) some within.1 in
+    let ih : numbered (before + step event) rest ≡ left = numbered-taken (before + step event) n later (omega arith) some within.1 in
     let go : (b : Bool) → nat_lt (rests_on before event) n ≡ b → numbered before (cond (not b) rest (event ∷ rest)) ≡ cond b (head ∷ left) left =
     λ b. elim b as (λ b. nat_lt (rests_on before event) n ≡ b → numbered before (cond (not b) rest (event ∷ rest)) ≡ cond b (head ∷ left) left) [
       | true ↦ λ yes. ap (λ others. head ∷ others) ih
       | false ↦ λ no. same_without before n event later count no ∙ ih
     ]
     in rw (is_taken_level before n event later count some within.0) (go (nat_lt (rests_on before event) n) refl)
+
+pub numbered-without : (n : ℕ) (events : List Event) → n ≡ commit_count events → 1 ≤ n → Each (CitesUpTo n) events
+    → numbered 0 (without_answer n events) ≡ filter (λ e. nat_lt e.level n) (numbered 0 events)
+numbered-without n events count some within =
+    ap (λ has_commit. numbered 0 (without_taken n has_commit events)) (any_commit_some events (omega arith))
+    ∙ numbered-taken 0 n events (omega arith) some within
 
 module _ {Y : Type 0} (f : Event → Option Y) where
   -- the function gives something of Commits, and of them alone
@@ -185,26 +191,30 @@ module _ {Y : Type 0} (f : Event → Option Y) where
       in go (commit_count later) refl
 
   -- what the last Commit gives is gone
+  filter_map-taken : (n : ℕ) (has_commit : Bool) (events : List Event) → Each OfCommits events
+      → filter_map f (without_taken n has_commit events) ≡ take (commit_count events - 1) (filter_map f events)
+  filter_map-taken n has_commit [] each = refl
+  filter_map-taken n has_commit (Eliminate worker place verdict combination ∷ later) each =
+      let event : Event = Eliminate worker place verdict combination in
+      same_either event (without_taken n has_commit later) (is_taken n has_commit later event) each.0 ∙ filter_map-taken n has_commit later each.1
+      ∙ rw (each.0) (ap (λ k. take (k - 1) (filter_map f later)) (omega arith))
+  filter_map-taken n has_commit (Issue desk place plus minus ∷ later) each =
+      same_either (Issue desk place plus minus) (without_taken n has_commit later) false each.0 ∙ filter_map-taken n has_commit later each.1
+      ∙ rw (each.0) (ap (λ k. take (k - 1) (filter_map f later)) (omega arith))
+  filter_map-taken n has_commit (Commit desk question side plus minus point ∷ later) each =
+      let event : Event = Commit desk question side plus minus point in
+      last_or_kept event later (without_taken n has_commit later) each.0.0 each.0.1 (filter_map-taken n has_commit later each.1)
+      ∙ rw (each.0.1) refl
+  filter_map-taken n has_commit (Close desk question ∷ later) each =
+      same_either (Close desk question) (without_taken n has_commit later) (has_commit && not (list_any is_commit later)) each.0 ∙ filter_map-taken n has_commit later each.1
+      ∙ rw (each.0) (ap (λ k. take (k - 1) (filter_map f later)) (omega arith))
+  filter_map-taken n has_commit (Withdraw desk answer ∷ later) each =
+      same_either (Withdraw desk answer) (without_taken n has_commit later) false each.0 ∙ filter_map-taken n has_commit later each.1
+      ∙ rw (each.0) (ap (λ k. take (k - 1) (filter_map f later)) (omega arith))
+
   pub filter_map-without : (n : ℕ) (events : List Event) → Each OfCommits events
       → filter_map f (without_answer n events) ≡ take (commit_count events - 1) (filter_map f events)
-  filter_map-without n [] each = refl
-  filter_map-without n (Eliminate worker place verdict combination ∷ later) each =
-      let event : Event = Eliminate worker place verdict combination in
-      same_either event (without_answer n later) (is_taken n later event) each.0 ∙ filter_map-without n later each.1
-      ∙ rw (each.0) (ap (λ k. take (k - 1) (filter_map f later)) (omega arith))
-  filter_map-without n (Issue desk place plus minus ∷ later) each =
-      same_either (Issue desk place plus minus) (without_answer n later) false each.0 ∙ filter_map-without n later each.1
-      ∙ rw (each.0) (ap (λ k. take (k - 1) (filter_map f later)) (omega arith))
-  filter_map-without n (Commit desk question side plus minus point ∷ later) each =
-      let event : Event = Commit desk question side plus minus point in
-      last_or_kept event later (without_answer n later) each.0.0 each.0.1 (filter_map-without n later each.1)
-      ∙ rw (each.0.1) refl
-  filter_map-without n (Close desk question ∷ later) each =
-      same_either (Close desk question) (without_answer n later) (not (list_any is_commit later)) each.0 ∙ filter_map-without n later each.1
-      ∙ rw (each.0) (ap (λ k. take (k - 1) (filter_map f later)) (omega arith))
-  filter_map-without n (Withdraw desk answer ∷ later) each =
-      same_either (Withdraw desk answer) (without_answer n later) false each.0 ∙ filter_map-without n later each.1
-      ∙ rw (each.0) (ap (λ k. take (k - 1) (filter_map f later)) (omega arith))
+  filter_map-without n events each = filter_map-taken n (list_any is_commit events) events each
 
 -- a fact of each numbered event, as one of each event
 pub Each-events : (P : Event → Type 0) (before : ℕ) (events : List Event) → Each (λ e. P e.event) (numbered before events) → Each P events

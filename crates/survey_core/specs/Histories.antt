@@ -1,6 +1,6 @@
 -- What a list of events comes to: the standing events, the committed answers, the issued and the open questions.
 -- Questions are numbered by their Issues, from 1 on, and classes have their places in the class list, from 1 on.
-use Rattle.std.specs.Prelude.{ℕ, ◌-◌, Bool, false, not, ◌||◌, ◌==◌, if◌then◌else◌, List, [], ◌∷◌, ◌++◌, length, filter, count_by, fold, slice_get, Contains, Option, None}
+use Rattle.std.specs.Prelude.{ℕ, zero, suc, Bool, false, not, ◌&&◌, ◌||◌, ◌==◌, if◌then◌else◌, List, [], ◌∷◌, ◌++◌, length, filter, count_by, fold, slice_get, Contains, Option, None}
 use Rattle.std.specs.Option.{option_map, option_map_or, option_and_then}
 use Rattle.std.specs.List.{list_any, filter_map, range_with_len}
 use Rattle.criteria_model.specs.declared.pairs.Pair.{Pair}
@@ -9,18 +9,23 @@ use Rattle.survey_core.specs.declared.events.Event.{Event}
 use Rattle.survey_core.specs.declared.events.Event.TheVariants.{Eliminate, Commit, Close, Withdraw}
 use Rattle.survey_core.specs.Kinds.{eliminates, cites, issued_place, is_commit, commits, closes, is_withdraw}
 
--- what a withdrawal of the answer takes out of the standing events, seen from what stands behind it: each Eliminate that
--- cites the answer, the last Commit, and each Close after that (a legal history has a Commit standing where a Withdraw comes)
-abbrev pub is_taken : ℕ → List Event → Event → Bool
-is_taken answer later (Eliminate worker place verdict combination) = cites answer (Eliminate worker place verdict combination)
-is_taken answer later (Commit desk question side plus minus point) = not (list_any is_commit later)
-is_taken answer later (Close desk question) = not (list_any is_commit later)
-is_taken answer later _ = false
+-- what a withdrawal of the answer takes out of the standing events: each Eliminate that cites the answer, the last Commit, and
+-- each Close after that Commit. A Close is after the last Commit where a Commit stands and none comes later
+abbrev pub is_taken : ℕ → Bool → List Event → Event → Bool
+is_taken answer has_commit later (Eliminate worker place verdict combination) = cites answer (Eliminate worker place verdict combination)
+is_taken answer has_commit later (Commit desk question side plus minus point) = not (list_any is_commit later)
+is_taken answer has_commit later (Close desk question) = has_commit && not (list_any is_commit later)
+is_taken answer has_commit later _ = false
 
--- the standing events without those
+-- the events without those, where it is given whether a Commit stands among all events
+abbrev pub without_taken : ℕ → Bool → List Event → List Event
+without_taken answer has_commit [] = []
+without_taken answer has_commit (event ∷ later) =
+    if is_taken answer has_commit later event then without_taken answer has_commit later else event ∷ without_taken answer has_commit later
+
+-- the standing events without what the withdrawal of the answer takes out
 abbrev pub without_answer : ℕ → List Event → List Event
-without_answer answer [] = []
-without_answer answer (event ∷ later) = if is_taken answer later event then without_answer answer later else event ∷ without_answer answer later
+without_answer answer events = without_taken answer (list_any is_commit events) events
 
 -- the standing events, after one more event: a Withdraw takes events out, any other event is put at the end
 abbrev pub standing_after : List Event → Event → List Event
@@ -39,13 +44,18 @@ issued history = filter_map issued_place history
 abbrev pub is_issued : List Event → ℕ → Bool
 is_issued history place = list_any (λ asked. asked == place) (issued history)
 
+-- the item with a number, counted from 1; none has the number 0
+abbrev pub item_at : {X : Type 0} → List X → ℕ → Option X
+item_at items zero = None
+item_at items (suc k) = slice_get items k
+
 -- the place of the class that a question asks, by the places of all questions
 abbrev pub place_of : List ℕ → ℕ → Option ℕ
-place_of asked question = slice_get asked (question - 1)
+place_of asked question = item_at asked question
 
 -- the class at a place
 abbrev pub class_at : List Pair → ℕ → Option Pair
-class_at classes place = slice_get classes (place - 1)
+class_at classes place = item_at classes place
 
 -- the class of a question
 abbrev pub class_of : List Pair → List ℕ → ℕ → Option Pair

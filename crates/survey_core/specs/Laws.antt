@@ -15,9 +15,9 @@ use Rattle.pair_enumeration.specs.Places.{NeedsQuestion, IsPlaceOf}
 use Rattle.survey_core.specs.declared.broken.Broken.{Broken}
 use Rattle.survey_core.specs.declared.events.Event.{Event}
 use Rattle.survey_core.specs.declared.events.Event.TheVariants.{Eliminate, Commit}
+use Rattle.survey_core.specs.declared.limits.TheConstants.{MAX_EVENTS}
 use Rattle.survey_core.specs.Histories.{standing, issued, place_of, committed, class_at, is_ranked}
-use Rattle.survey_core.specs.Legal.{IsPlace, MayFollow, IsLegal}
-use Rattle.survey_core.specs.Verdicts.{FailsFirst}
+use Rattle.survey_core.specs.Legal.{IsPlace, MayFollow, FailsFirst, IsLegal}
 
 -- the point of a Commit
 abbrev pub point_of : Event → Option (List ℤ)
@@ -38,12 +38,12 @@ LastPointMeets =
 abbrev pub RankedByAnswers : Type 0
 RankedByAnswers =
     (listed : Listed) (history : List Event) (place : ℕ) (pair : Pair) → IsListed listed → IsLegal listed history
-    → IsTrue (is_ranked history place) → 1 ≤ place → class_at listed.classes place ≡ Some pair
+    → IsTrue (is_ranked history place) → class_at listed.classes place ≡ Some pair
     → (side : Side) × IsRanked listed.criteria.levels (committed listed.classes history) pair side
 
--- a legal history is at most 131,072 events long
+-- a legal history is at most MAX_EVENTS events long
 abbrev pub IsShort : Type 0
-IsShort = (listed : Listed) (history : List Event) → IsListed listed → IsLegal listed history → length history ≤ 131072
+IsShort = (listed : Listed) (history : List Event) → IsListed listed → IsLegal listed history → length history ≤ MAX_EVENTS
 
 -- the answers of a legal history are satisfiable
 abbrev pub AnswersAreSatisfiable : Type 0
@@ -59,14 +59,14 @@ EliminatedAreRanked =
     → IsRanked listed.criteria.levels (committed listed.classes before) pair verdict
 
 -- the side that an event gives the class at a place: the verdict of its Eliminate, or the side of a Commit of a question that asks it
-abbrev pub Gives : List ℕ → ℕ → Event → Side → Type 0
-Gives asked place (Eliminate worker eliminated verdict combination) side = (eliminated ≡ place) × (verdict ≡ side)
-Gives asked place (Commit desk question chosen plus minus point) side = (place_of asked question ≡ Some place) × (chosen ≡ side)
-Gives asked place _ side = ⊥
+abbrev pub GivesSide : List ℕ → ℕ → Event → Side → Type 0
+GivesSide asked place (Eliminate worker eliminated verdict combination) side = (eliminated ≡ place) × (verdict ≡ side)
+GivesSide asked place (Commit desk question chosen plus minus point) side = (place_of asked question ≡ Some place) × (chosen ≡ side)
+GivesSide asked place _ side = ⊥
 
 -- the ranking of the class at a place: the side that a standing Eliminate or Commit gives it
 abbrev pub HasRanking : List Event → ℕ → Side → Type 0
-HasRanking history place side = Any (λ event. Gives (issued history) place event side) (standing history)
+HasRanking history place side = Any (λ event. GivesSide (issued history) place event side) (standing history)
 
 -- a class has such a ranking exactly where it is ranked by an event
 abbrev pub RankedHasRanking : Type 0
@@ -107,9 +107,9 @@ pub record HasClassRanking (listed : Listed) (history : List Event) (a b : List 
   pub ranking : HasRanking history place side
   pub ranked : IsRanked listed.criteria.levels (committed listed.classes history) (record { left = a; right = b }) (flipped_side flip side)
 
--- complete: each class is ranked by an event
-abbrev pub IsComplete : Listed → List Event → Type 0
-IsComplete listed history = (place : ℕ) → IsPlace listed place → IsTrue (is_ranked history place)
+-- each class is ranked by an event
+abbrev pub RanksEachClass : Listed → List Event → Type 0
+RanksEachClass listed history = (place : ℕ) → IsPlace listed place → IsTrue (is_ranked history place)
 
 -- every two undominated alternatives of a degree within the limit have the ranking of their class
 abbrev pub RanksEveryPair : Listed → List Event → Type 0
@@ -117,10 +117,10 @@ RanksEveryPair listed history =
     (a b : List ℕ) → IsAlternative listed.criteria.levels a → IsAlternative listed.criteria.levels b → NeedsQuestion listed.criteria a b
     → HasClassRanking listed history a b
 
--- a legal history that is complete ranks every pair
+-- a legal history that ranks each class ranks every pair
 abbrev pub CompleteRanksEveryPair : Type 0
 CompleteRanksEveryPair =
-    (listed : Listed) (history : List Event) → IsListed listed → IsLegal listed history → IsComplete listed history → RanksEveryPair listed history
+    (listed : Listed) (history : List Event) → IsListed listed → IsLegal listed history → RanksEachClass listed history → RanksEveryPair listed history
 
 -- an event lacks one first part at most
 abbrev pub OneFirstPart : Type 0

@@ -1,7 +1,7 @@
 pub mod Kinds
 pub mod Histories
+pub mod Parts
 pub mod Legal
-pub mod Verdicts
 pub mod Laws
 pub mod Recorded
 pub mod States

@@ -15,7 +15,8 @@ use Rattle.survey_core.specs.declared.marks.Mark.{Mark}
 use Rattle.survey_core.specs.declared.marks.Question.{Question}
 use Rattle.survey_core.specs.Kinds.{is_commit}
 use Rattle.survey_core.specs.Histories.{standing, issued, is_issued, committed, commits_class, withdrawals}
-use Rattle.survey_core.specs.Legal.{IsLegal}
+use Rattle.survey_core.specs.declared.limits.TheConstants.{MAX_EVENTS}
+use Rattle.survey_core.specs.Legal.{most_events, IsLegal}
 
 -- the greatest number of a cited answer; 0 where none is cited
 abbrev pub greatest_cited : List Cite → ℕ
@@ -193,15 +194,15 @@ pub record IsTableOf (listed : Listed) (history : List Event) (answers : ℕ) (t
   pub asked_count : count_by (λ mark. mark.issued) table.classes ≡ length table.questions
   pub answer_count : (most : ℕ) → count_by (is_answer_up_to most) table.classes ≡ min most answers
 
--- what a `Core` keeps
-pub record IsKept (listed : Listed) (history : List Event) (answers : AnswersWithRoom) (table : Table) (withdrawn room : ℕ) : Type 0 where
+-- what a `Core` keeps of a history
+pub record KeepsHistory (listed : Listed) (history : List Event) (answers : AnswersWithRoom) (table : Table) (withdrawn room : ℕ) : Type 0 where
   pub model : IsListed listed
   pub legal : IsLegal listed history
   pub answered : answers.answers ≡ committed listed.classes history
   pub room_for_answers : length listed.classes ≤ room_of answers
   pub table_of : IsTableOf listed history (length answers.answers) table
   pub withdrawals_made : withdrawn ≡ withdrawals history
-  pub unspent : 3 * length listed.classes + 2 * length listed.classes * withdrawn + withdrawn ≤ 131072
+  pub unspent : most_events (length listed.classes) withdrawn ≤ MAX_EVENTS
   pub short : length history + count_by is_open_mark table.questions + length answers.answers
       ≤ 2 * length table.questions + count_by is_ranked_mark table.classes + withdrawn * (2 * length listed.classes + 1)
-  pub room_for_events : 131072 ≤ room
+  pub room_for_events : MAX_EVENTS ≤ room

@@ -15,7 +15,7 @@
 
 pub use broken::Broken;
 pub use events::Event;
-pub use limits::spent;
+pub use limits::{MAX_DESKS, MAX_EVENTS, MAX_OPEN_QUESTIONS, MAX_WORKERS, spent};
 pub use questions::QuestionState;
 pub use survey::Core;
 

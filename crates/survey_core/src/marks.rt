@@ -4,6 +4,7 @@ ghost use Rattle.std.specs.Option.{option_map};
 ghost use Rattle.survey_core.specs.declared.marks.Mark.{Mark};
 ghost use Rattle.survey_core.specs.declared.marks.Question.{Question};
 ghost use Rattle.survey_core.specs.declared.marks.Ending.TheVariants.{Open as StillOpen};
+ghost use Rattle.survey_core.specs.Histories.{item_at};
 ghost use Rattle.survey_core.specs.Marked.{unmarked, is_ranking, is_elimination, is_settled, is_open, is_ranked_mark, is_open_mark, with_ranking, with_issued, with_ending, left_ranking, left_ending, left_mark, left_question, AreSettled};
 
 use std::alloc::{AllocError as NoMemory, Global};
@@ -175,7 +176,7 @@ impl Marks {
     pub fn asked_place(&self, number: u32) -> u32
         requires low { 1 ≤ number }
         requires high { number ≤ length self.now.questions }
-        ensures { option_map (λ question. question.place) (slice_get self.now.questions (number - 1)) ≡ Some result }
+        ensures { option_map (λ question. question.place) (item_at self.now.questions number) ≡ Some result }
     {
         self.questions[number as usize - 1].place
     }

@@ -1,4 +1,4 @@
-ghost use Rattle.std.specs.Prelude.{◌≡◌, ◌↔◌, ℕ, ◌-◌, ◌^◌, ◌<◌, ◌≤◌, [], ◌∷◌, ◌++◌, Some, length, slice_get, IsTrue, IsSomeAnd, IfOk, IsSome, IfSome, MatchResult, MatchOption, unsigned_abs};
+ghost use Rattle.std.specs.Prelude.{◌≡◌, ◌↔◌, ℕ, ◌-◌, ◌^◌, ◌<◌, ◌≤◌, [], ◌∷◌, ◌++◌, Some, length, slice_get, IsTrue, All, IsSomeAnd, IfOk, IsSome, IfSome, MatchResult, MatchOption, unsigned_abs};
 ghost use Rattle.criteria_model.specs.Worth.{increments, IsValueVector};
 ghost use Rattle.criteria_model.specs.declared.pairs.Answer.{Answer};
 ghost use Rattle.farkas_check.specs.Flaws.{IsFirstFlaw};
@@ -8,15 +8,15 @@ ghost use Rattle.criteria_model.specs.Classes.{IsClass};
 ghost use Rattle.pair_enumeration.specs.Listed.{IsListed};
 ghost use Rattle.pair_enumeration.specs.Places.{StandsAt};
 ghost use Rattle.survey_core.specs.Histories.{issued, is_issued, place_of, class_at, committed, is_ranked, is_eliminated, open_questions, IsOpenQuestion, withdrawals as withdrawals_of};
-ghost use Rattle.survey_core.specs.Legal.{IsEvent, IsPlace, AreEarlierAsked, OpensPlace, MayEliminate, MayIssue, MayCommit, MayClose, MayWithdraw, MayFollow, IsLegal};
+ghost use Rattle.survey_core.specs.Legal.{IsEvent, IsPlace, AreEarlierAsked, OpensClass, eliminate_parts, issue_parts, commit_parts, close_parts, withdraw_parts, parts, IsSpent, MayFollow, IsLegal};
 ghost use Rattle.survey_core.specs.Laws.{last_point};
 ghost use Rattle.survey_core.specs.Marked.{greatest_cited};
-ghost use Rattle.survey_core.specs.Verdicts.{EliminateFails, IssueFails, CommitFails, CloseFails, WithdrawFails, FailsFirst};
+ghost use Rattle.survey_core.specs.Parts.{IsVerdictOn};
 ghost use Rattle.survey_core.specs.States.{HasState};
 
 use crate::broken::Broken;
 use crate::events::Event;
-use crate::limits::spent;
+use crate::limits::{MAX_EVENTS, MAX_OPEN_QUESTIONS, spent};
 use crate::marks::{Ending, Marks, Ranking};
 use crate::questions::QuestionState;
 use answer_rows::Answers;
@@ -49,9 +49,9 @@ impl std::marker::Model for Core {
     ghost view = { λ c. record { listed = c.classes; history = map (λ event. event.value) c.events.items } };
 
     ghost use Rattle.std.specs.Prelude.{vec_capacity};
-    ghost use Rattle.survey_core.specs.Marked.{IsKept};
+    ghost use Rattle.survey_core.specs.Marked.{KeepsHistory};
 
-    ghost invariant = { λ c. IsKept c.classes (map (λ event. event.value) c.events.items) c.answers c.marks c.withdrawals (vec_capacity c.events) };
+    ghost invariant = { λ c. KeepsHistory c.classes (map (λ event. event.value) c.events.items) c.answers c.marks c.withdrawals (vec_capacity c.events) };
 }
 
 impl Core {
@@ -65,7 +65,7 @@ impl Core {
         let count = classes.count();
         let answers = Answers::reserve(alloc, count)?;
         let marks = Marks::new(alloc, count as usize)?;
-        let events = Vec::with_capacity(alloc, 131_072)?;
+        let events = Vec::with_capacity(alloc, MAX_EVENTS as usize)?;
         Ok(Core {
             classes,
             answers,
@@ -82,9 +82,7 @@ impl Core {
     /// The first part that the event lacks.
     pub fn allowed(&self, event: &Event) -> Result<(), Broken>
         requires { IsEvent self.now.listed.criteria.levels event.now }
-        ensures { MatchResult result
-            (λ _. MayFollow self.now.listed self.now.history event.now)
-            (λ part. FailsFirst self.now.listed self.now.history event.now part) }
+        ensures { IsVerdictOn (parts self.now.listed self.now.history event.now) result }
     {
         match event {
             Event::Eliminate {
@@ -121,9 +119,7 @@ impl Core {
     ) -> Result<(), Broken>
         requires len { length combination.now.increments ≡ increments self.now.listed.criteria.levels }
         requires scale { unsigned_abs combination.now.scale < 2 ^ 96 }
-        ensures { MatchResult result
-            (λ _. MayEliminate self.now.listed self.now.history place verdict combination.now)
-            (λ part. EliminateFails self.now.listed self.now.history place verdict combination.now part) }
+        ensures { IsVerdictOn (eliminate_parts self.now.listed self.now.history place verdict combination.now) result }
     {
         if !self.has_class(place) {
             return Err(Broken::Class);
@@ -161,9 +157,7 @@ impl Core {
     fn may_issue(&self, place: u32, plus: &Vector, minus: &Vector) -> Result<(), Broken>
         requires plus { IsValueVector self.now.listed.criteria.levels plus.now }
         requires minus { IsValueVector self.now.listed.criteria.levels minus.now }
-        ensures { MatchResult result
-            (λ _. MayIssue self.now.listed self.now.history place plus.now minus.now)
-            (λ part. IssueFails self.now.listed self.now.history place plus.now minus.now part) }
+        ensures { IsVerdictOn (issue_parts self.now.listed self.now.history place plus.now minus.now) result }
     {
         if !self.has_class(place) {
             return Err(Broken::Class);
@@ -174,7 +168,7 @@ impl Core {
         if self.is_issued(place) {
             return Err(Broken::Asked);
         }
-        if self.open_questions() >= 4 {
+        if self.open_questions() >= MAX_OPEN_QUESTIONS {
             return Err(Broken::Full);
         }
         if !self.is_front(place) {
@@ -207,7 +201,7 @@ impl Core {
         requires place { IsPlace self.now.listed place }
         requires plus { IsValueVector self.now.listed.criteria.levels plus.now }
         requires minus { IsValueVector self.now.listed.criteria.levels minus.now }
-        ensures { IsTrue result ↔ OpensPlace self.now.listed self.now.history place plus.now minus.now }
+        ensures { IsTrue result ↔ OpensClass self.now.listed self.now.history place plus.now minus.now }
     {
         let model = self.classes.model();
         let pair = self.classes.class(place);
@@ -226,9 +220,7 @@ impl Core {
         requires plus { IsValueVector self.now.listed.criteria.levels plus.now }
         requires minus { IsValueVector self.now.listed.criteria.levels minus.now }
         requires point { IsValueVector self.now.listed.criteria.levels point.now }
-        ensures { MatchResult result
-            (λ _. MayCommit self.now.listed self.now.history question side plus.now minus.now point.now)
-            (λ part. CommitFails self.now.listed self.now.history question side plus.now minus.now point.now part) }
+        ensures { IsVerdictOn (commit_parts self.now.listed self.now.history question side plus.now minus.now point.now) result }
     {
         let Some(place) = self.open_place(question) else {
             return Err(Broken::Question);
@@ -282,9 +274,7 @@ impl Core {
 
     /// Whether the question may be closed.
     fn may_close(&self, question: u32) -> Result<(), Broken>
-        ensures { MatchResult result
-            (λ _. MayClose self.now.history question)
-            (λ part. CloseFails self.now.history question part) }
+        ensures { IsVerdictOn (close_parts self.now.history question) result }
     {
         let Some(place) = self.open_place(question) else {
             return Err(Broken::Question);
@@ -297,17 +287,22 @@ impl Core {
 
     /// Whether the answer may be taken back.
     fn may_withdraw(&self, answer: u32) -> Result<(), Broken>
-        ensures { MatchResult result
-            (λ _. MayWithdraw self.now.listed self.now.history answer)
-            (λ part. WithdrawFails self.now.listed self.now.history answer part) }
+        ensures { IsVerdictOn (withdraw_parts self.now.listed self.now.history answer) result }
     {
         if answer == 0 || answer != self.answers.len() {
             return Err(Broken::Nothing);
         }
-        if spent(self.classes.count(), self.withdrawals) {
+        if self.is_spent() {
             return Err(Broken::Spent);
         }
         Ok(())
+    }
+
+    /// Whether no further withdrawal is allowed.
+    fn is_spent(&self) -> bool
+        ensures { IsTrue result ↔ IsSpent (length self.now.listed.classes) (withdrawals_of self.now.history) }
+    {
+        spent(self.classes.count(), self.withdrawals)
     }
 
     /// Puts an event that may follow at the end of the history. It takes no memory.
@@ -355,14 +350,16 @@ impl Core {
         ensures value { result ≡ self.now.listed.criteria }
         ensures listed { IsListed self.now.listed }
         ensures legal { IsLegal self.now.listed self.now.history }
-        ensures short { length self.now.history ≤ 131072 }
+        ensures short { length self.now.history ≤ MAX_EVENTS }
     {
         self.classes.model()
     }
 
     /// The answers that stand, in order.
     pub fn answers(&self) -> &Answers
-        ensures { result.now.answers ≡ committed self.now.listed.classes self.now.history }
+        ensures value { result.now.answers ≡ committed self.now.listed.classes self.now.history }
+        ensures fit { All (λ answer. IsFit self.now.listed.criteria.levels answer.pair) result.now.answers }
+        ensures few { length result.now.answers ≤ length self.now.listed.classes }
     {
         &self.answers
     }
@@ -391,7 +388,7 @@ impl Core {
 
     /// What became of the question of a number.
     pub fn question(&self, number: u32) -> QuestionState
-        ensures { HasState self.now.history number result }
+        ensures { HasState self.now.listed self.now.history number result }
     {
         match self.marks.question(number) {
             None => QuestionState::Never,
@@ -407,7 +404,7 @@ impl Core {
     /// The class at a place; places count from 1.
     pub fn class(&self, place: u32) -> Pair
         requires { IsPlace self.now.listed place }
-        ensures value { slice_get self.now.listed.classes (place - 1) ≡ Some result }
+        ensures value { class_at self.now.listed.classes place ≡ Some result }
         ensures class { IsClass self.now.listed.criteria result }
     {
         self.classes.class(place)

@@ -12,6 +12,6 @@ pub returns : goal.returns
 returns c =
     let both : (count_by is_ranked_mark c.self.inside.marks.classes ≡ length c.self.inside.marks.classes)
     ↔ ((place : ℕ) → IsPlace c.self.inside.classes place → IsTrue (is_ranked (map (λ event. event.value) c.self.inside.events.items) place)) =
-    all_at c.self.inside.classes (map (λ event. event.value) c.self.inside.events.items) c.self.inside.answers c.self.inside.marks c.self.inside.withdrawals (vec_capacity c.self.inside.events) c.self.invariant in
+    all_at _ _ _ _ _ _ c.self.invariant in
     subst (λ (r : Recorded). IsTrue c.all_ranked.result ↔ ((place : ℕ) → IsPlace r.listed place → IsTrue (is_ranked r.history place))) c.self.view_is
     ((λ every. both.0 (c.all_ranked.ensures.0 every)), (λ all. c.all_ranked.ensures.1 (both.1 all)))

@@ -10,11 +10,11 @@ use Rattle.survey_core.proofs.survey.Core.flaw.Goals as goal
 
 pub flaw-requires-clause-answers_fit : goal.flaw-requires-clause-answers_fit
 flaw-requires-clause-answers_fit c =
-    subst (λ (m : Criteria). All (λ answer. IsFit m.levels answer.pair) c.self.inside.answers.answers) (sym c.model-model.ensures.value) (fit_at c.self.inside.classes (map (λ event. event.value) c.self.inside.events.items) c.self.inside.answers c.self.inside.marks c.self.inside.withdrawals (vec_capacity c.self.inside.events) c.self.invariant)
+    subst (λ (m : Criteria). All (λ answer. IsFit m.levels answer.pair) c.self.inside.answers.answers) (sym c.model-model.ensures.value) (fit_at _ _ _ _ _ _ c.self.invariant)
 
 pub returns : goal.returns
 returns c =
     subst (λ (r : Recorded). IsSomeAnd (class_at r.listed.classes c.args.place)
     (λ pair. IsFirstFlaw r.listed.criteria.levels (committed r.listed.classes r.history) c.args.combination.now pair c.args.verdict c.flaw.result)) c.self.view_is
-    (flaw_at c.self.inside.classes (map (λ event. event.value) c.self.inside.events.items) c.self.inside.answers c.self.inside.marks c.self.inside.withdrawals (vec_capacity c.self.inside.events) c.self.invariant c.model-model.result c.args.place c.class-pair.result c.args.combination.now c.args.verdict c.flaw.result
-    c.model-model.ensures.value c.class-pair.ensures.value c.flaw.ensures)
+    (flaw_at _ _ _ _ _ _ c.self.invariant c.model-model.result c.args.place c.class-pair.result c.args.combination.now c.args.verdict c.flaw.result
+    c.model-model.ensures.value (c.requires.place.0, c.class-pair.ensures.value) c.flaw.ensures)

@@ -10,6 +10,6 @@ pub returns : goal.returns
 returns c =
     let is : IsPlace c.self.inside.classes c.args.place = subst (λ (r : Recorded). IsPlace r.listed c.args.place) (sym c.self.view_is) c.requires in
     let both : AreSettled c.self.inside.marks.classes (c.args.place - 1) ↔ AreEarlierAsked (map (λ event. event.value) c.self.inside.events.items) c.args.place =
-    front_at c.self.inside.classes (map (λ event. event.value) c.self.inside.events.items) c.self.inside.answers c.self.inside.marks c.self.inside.withdrawals (vec_capacity c.self.inside.events) c.self.invariant c.args.place is in
+    front_at _ _ _ _ _ _ c.self.invariant c.args.place is in
     subst (λ (r : Recorded). IsTrue c.is_front.result ↔ AreEarlierAsked r.history c.args.place) c.self.view_is
     ((λ front. both.0 (c.is_front.ensures.0 front)), (λ all. c.is_front.ensures.1 (both.1 all)))

@@ -2,11 +2,11 @@ use Rattle.std.proofs.Common.{◌≤◌, map, ap, sym, ◌∙◌}
 use Rattle.std.specs.Vec.{vec_capacity}
 use Rattle.survey_core.specs.Recorded.{Recorded}
 use Rattle.survey_core.specs.Histories.{is_issued}
-use Rattle.survey_core.proofs.KeptLemmas.{mark_at}
+use Rattle.survey_core.proofs.ReadLemmas.{mark_at}
 use Rattle.survey_core.proofs.survey.Core.is_issued.Goals as goal
 
 pub returns : goal.returns
 returns c =
     let low : 1 ≤ c.args.place = c.requires.0 in
-    sym (mark_at c.self.inside.classes (map (λ event. event.value) c.self.inside.events.items) c.self.inside.answers c.self.inside.marks c.self.inside.withdrawals (vec_capacity c.self.inside.events) c.self.invariant c.args.place c.class.result low c.class.ensures).asked
+    sym (mark_at c.self.invariant.table_of c.args.place c.class.result low c.class.ensures).asked
     ∙ ap (λ (r : Recorded). is_issued r.history c.args.place) c.self.view_is

@@ -11,7 +11,7 @@ use Rattle.survey_core.proofs.survey.Core.is_met.Goals as goal
 
 pub meets-requires-clause-fit : goal.meets-requires-clause-fit
 meets-requires-clause-fit c =
-    subst (λ (m : Criteria). All (λ answer. IsFit m.levels answer.pair) c.self.inside.answers.answers) (sym c.model-model.ensures.value) (fit_at c.self.inside.classes (map (λ event. event.value) c.self.inside.events.items) c.self.inside.answers c.self.inside.marks c.self.inside.withdrawals (vec_capacity c.self.inside.events) c.self.invariant)
+    subst (λ (m : Criteria). All (λ answer. IsFit m.levels answer.pair) c.self.inside.answers.answers) (sym c.model-model.ensures.value) (fit_at _ _ _ _ _ _ c.self.invariant)
 
 pub returns-then-meets : goal.returns-then-meets
 returns-then-meets c =
@@ -19,7 +19,7 @@ returns-then-meets c =
     ↔ IsSomeAnd (class_at c.self.inside.classes.classes c.args.place)
     (λ pair. MeetsAll c.self.inside.classes.criteria.levels
     (committed c.self.inside.classes.classes (map (λ event. event.value) c.self.inside.events.items) ++ record { pair = pair; side = c.args.side } ∷ []) c.args.point.now) =
-    (meets_at c.self.inside.classes (map (λ event. event.value) c.self.inside.events.items) c.self.inside.answers c.self.inside.marks c.self.inside.withdrawals (vec_capacity c.self.inside.events) c.self.invariant c.model-model.result c.args.place c.class-pair.result c.args.side c.args.point.now c.model-model.ensures.value c.class-pair.ensures.value) in
+    (meets_at _ _ _ _ _ _ c.self.invariant c.model-model.result c.args.place c.class-pair.result c.args.side c.args.point.now c.model-model.ensures.value (c.requires.place.0, c.class-pair.ensures.value)) in
     subst (λ (r : Recorded). IsTrue c.ranks.result ↔ IsSomeAnd (class_at r.listed.classes c.args.place)
     (λ pair. MeetsAll r.listed.criteria.levels (committed r.listed.classes r.history ++ record { pair = pair; side = c.args.side } ∷ []) c.args.point.now)) c.self.view_is
     ((λ h. both.0 (c.meets.ensures.0 c.if-meets.true, c.ranks.ensures.0 h)), (λ h. c.ranks.ensures.1 (both.1 h).1))
@@ -30,7 +30,7 @@ returns-else-meets c =
     ↔ IsSomeAnd (class_at c.self.inside.classes.classes c.args.place)
     (λ pair. MeetsAll c.self.inside.classes.criteria.levels
     (committed c.self.inside.classes.classes (map (λ event. event.value) c.self.inside.events.items) ++ record { pair = pair; side = c.args.side } ∷ []) c.args.point.now) =
-    (meets_at c.self.inside.classes (map (λ event. event.value) c.self.inside.events.items) c.self.inside.answers c.self.inside.marks c.self.inside.withdrawals (vec_capacity c.self.inside.events) c.self.invariant c.model-model.result c.args.place c.class-pair.result c.args.side c.args.point.now c.model-model.ensures.value c.class-pair.ensures.value) in
+    (meets_at _ _ _ _ _ _ c.self.invariant c.model-model.result c.args.place c.class-pair.result c.args.side c.args.point.now c.model-model.ensures.value (c.requires.place.0, c.class-pair.ensures.value)) in
     subst (λ (r : Recorded). IsTrue c.meets.result ↔ IsSomeAnd (class_at r.listed.classes c.args.place)
     (λ pair. MeetsAll r.listed.criteria.levels (committed r.listed.classes r.history ++ record { pair = pair; side = c.args.side } ∷ []) c.args.point.now)) c.self.view_is
     ((λ h. absurd (let no_more : true ≡ false = sym h ∙ c.if-meets.false in cc)), (λ h. c.meets.ensures.1 (both.1 h).0))

@@ -8,5 +8,5 @@ use Rattle.survey_core.proofs.survey.Core.is_ranked.Goals as goal
 pub returns : goal.returns
 returns c =
     let low : 1 ≤ c.args.place = c.requires.0 in
-    c.is_ranked.ensures ∙ sym (ranked_at c.self.inside.classes (map (λ event. event.value) c.self.inside.events.items) c.self.inside.answers c.self.inside.marks c.self.inside.withdrawals (vec_capacity c.self.inside.events) c.self.invariant c.args.place c.class.result low c.class.ensures)
+    c.is_ranked.ensures ∙ sym (ranked_at _ _ _ _ _ _ c.self.invariant c.args.place c.class.result low c.class.ensures)
     ∙ ap (λ (r : Recorded). is_ranked r.history c.args.place) c.self.view_is

@@ -7,4 +7,4 @@ use Rattle.survey_core.proofs.survey.Core.open_questions.Goals as goal
 
 pub returns : goal.returns
 returns c =
-    c.open_questions.ensures ∙ sym (open_at c.self.inside.classes (map (λ event. event.value) c.self.inside.events.items) c.self.inside.answers c.self.inside.marks c.self.inside.withdrawals (vec_capacity c.self.inside.events) c.self.invariant) ∙ ap (λ (r : Recorded). length (open_questions r.history)) c.self.view_is
+    c.open_questions.ensures ∙ sym (open_at _ _ _ _ _ _ c.self.invariant) ∙ ap (λ (r : Recorded). length (open_questions r.history)) c.self.view_is
