@@ -5,7 +5,7 @@ use Rattle.std.proofs.lemmas.List.{map_push}
 use Rattle.std.proofs.lemmas.List.Elements.{All-nil}
 use Rattle.criteria_model.specs.Criteria.{Criteria, IsModel}
 use Rattle.survey_core.specs.declared.events.Event.{Event}
-use Rattle.survey_core.specs.Laws.{IsComplete}
+use Rattle.survey_core.specs.Laws.{RanksEachClass}
 use Rattle.survey_core.specs.Recorded.{Recorded}
 use Rattle.result_file.specs.declared.bodies.Body.TheVariants as bodies
 use Rattle.result_file.specs.declared.entries.Format.{Format}
@@ -119,10 +119,10 @@ stops_events old line part failed (of_events format survey) no_end h =
 
 -- ---- whole bodies
 
-pub whole_complete : (kept : KeptSurvey) → IsComplete kept.survey.listed kept.survey.history → (content : Content) → Keeps (bodies.Survey kept) content → IsCompleteContent content
+pub whole_complete : (kept : KeptSurvey) → RanksEachClass kept.survey.listed kept.survey.history → (content : Content) → Keeps (bodies.Survey kept) content → IsCompleteContent content
 whole_complete kept complete (of_claims criteria claims) h = absurd h
-whole_complete kept complete (of_events format survey) h = subst (λ (s : Recorded). IsComplete s.listed s.history) h.1 complete
+whole_complete kept complete (of_events format survey) h = subst (λ (s : Recorded). RanksEachClass s.listed s.history) h.1 complete
 
-pub whole_incomplete : (kept : KeptSurvey) → (¬ IsComplete kept.survey.listed kept.survey.history) → (content : Content) → Keeps (bodies.Survey kept) content → ¬ IsCompleteContent content
+pub whole_incomplete : (kept : KeptSurvey) → (¬ RanksEachClass kept.survey.listed kept.survey.history) → (content : Content) → Keeps (bodies.Survey kept) content → ¬ IsCompleteContent content
 whole_incomplete kept incomplete (of_claims criteria claims) h complete = absurd h
-whole_incomplete kept incomplete (of_events format survey) h complete = incomplete (subst (λ (s : Recorded). IsComplete s.listed s.history) (sym h.1) complete)
+whole_incomplete kept incomplete (of_events format survey) h complete = incomplete (subst (λ (s : Recorded). RanksEachClass s.listed s.history) (sym h.1) complete)

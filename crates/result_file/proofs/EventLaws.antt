@@ -12,7 +12,9 @@ use Rattle.survey_core.specs.declared.broken.Broken.TheVariants as broken
 use Rattle.farkas_check.specs.declared.flaws.Flaw.TheVariants as flaws
 use Rattle.survey_core.specs.Legal.{IsEvent, IsLegal}
 use Rattle.survey_core.specs.Recorded.{Recorded}
-use Rattle.survey_core.specs.Verdicts.{FailsFirst}
+use Rattle.survey_core.specs.Legal.{FailsFirst}
+use Rattle.survey_core.proofs.ItemLemmas.{item_of}
+use Rattle.survey_core.proofs.PartLemmas.{eliminate_lacks_class, issue_lacks_class, commit_has_no_class, close_has_no_class, withdraw_has_no_class}
 use Rattle.result_file.specs.declared.entries.Entry.{Entry}
 use Rattle.result_file.specs.declared.entries.Format.{Format}
 use Rattle.result_file.specs.declared.entries.Format.TheVariants.{One, Two}
@@ -33,7 +35,7 @@ pub stands_within : (classes : List Pair) (place : ℕ) (pair : Pair) → Stands
 stands_within classes place pair h = (h.positive, omega (arith, h.positive, slice_get_within classes (place - 1) pair h.found))
 
 pub stands_read : (classes : List Pair) (place : ℕ) (pair : Pair) → StandsAt classes place pair → pair_at_place classes place ≡ pair
-stands_read classes place pair h = rw h.found refl
+stands_read classes place pair h = rw (item_of classes place pair h.positive h.found) refl
 
 -- ---- an entry's event
 
@@ -61,11 +63,13 @@ no_class format survey line entry form spelled room none = (entry, form, spelled
 
 -- an event that names its class doesn't lack it
 has_class : (survey : Recorded) (event : Event) → NamesClass survey.listed event → ¬ FailsFirst survey.listed survey.history event broken.Class
-has_class survey (events.Eliminate worker place verdict combination) named fails = fails named
-has_class survey (events.Issue desk place plus minus) named fails = fails named
-has_class survey (events.Commit desk question side plus minus point) named fails = fails
-has_class survey (events.Close desk question) named fails = fails
-has_class survey (events.Withdraw desk answer) named fails = fails
+has_class survey (events.Eliminate worker place verdict combination) named fails =
+    eliminate_lacks_class survey.listed survey.history place verdict combination fails named
+has_class survey (events.Issue desk place plus minus) named fails = issue_lacks_class survey.listed survey.history place plus minus fails named
+has_class survey (events.Commit desk question side plus minus point) named fails =
+    commit_has_no_class survey.listed survey.history question side plus minus point fails
+has_class survey (events.Close desk question) named fails = close_has_no_class survey.history question fails
+has_class survey (events.Withdraw desk answer) named fails = withdraw_has_no_class survey.listed survey.history answer fails
 
 breaks : (lacked : Broken) (survey : Recorded) (entry : Entry) (event : Event) → length survey.history < most_lines → Tells survey.listed entry event → FailsFirst survey.listed survey.history event lacked → EntryFailsAs survey entry (part_of_broken lacked)
 breaks broken.Class survey entry event room tells fails = absurd (has_class survey event tells.class fails)

@@ -9,6 +9,7 @@ use Rattle.survey_core.specs.declared.events.Event.{Event}
 use Rattle.survey_core.specs.declared.events.Event.TheVariants as events
 use Rattle.survey_core.specs.Legal.{IsPlace, MayFollow}
 use Rattle.survey_core.proofs.ListSteps.{slice_get_inside}
+use Rattle.survey_core.proofs.ItemLemmas.{item_of}
 use Rattle.result_file.specs.declared.eliminations.Elimination.{Elimination}
 use Rattle.result_file.specs.Events.{pair_at_place, as_entry, NamesClass}
 
@@ -19,7 +20,7 @@ pub stands_there : (listed : Listed) (place : ℕ) → IsPlace listed place → 
 stands_there listed place is_place =
     let found : (pair : Pair) × (slice_get listed.classes (place - 1) ≡ Some pair) =
     slice_get_inside listed.classes (place - 1) (omega (arith, is_place.0, is_place.1)) in
-    let read : pair_at_place listed.classes place ≡ found.0 = rw (found.1) refl in
+    let read : pair_at_place listed.classes place ≡ found.0 = rw (item_of listed.classes place found.0 is_place.0 found.1) refl in
     record { positive = is_place.0; found = found.1 ∙ ap Some (sym read) }
 
 pub is_class_there : (listed : Listed) (place : ℕ) → IsListed listed → IsPlace listed place → IsClass listed.criteria (pair_at_place listed.classes place)
@@ -36,8 +37,8 @@ place_once listed one other list h k same =
 
 -- an event that may follow names its class
 pub names_class : (listed : Listed) (history : List Event) (event : Event) → MayFollow listed history event → NamesClass listed event
-names_class listed history (events.Eliminate worker place verdict combination) may = may.class
-names_class listed history (events.Issue desk place plus minus) may = may.class
+names_class listed history (events.Eliminate worker place verdict combination) may = may.0
+names_class listed history (events.Issue desk place plus minus) may = may.0
 names_class listed history (events.Commit desk question side plus minus point) may = tt
 names_class listed history (events.Close desk question) may = tt
 names_class listed history (events.Withdraw desk answer) may = tt

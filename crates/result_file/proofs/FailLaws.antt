@@ -12,7 +12,7 @@ use Rattle.pair_enumeration.specs.Listed.{Listed, IsListed}
 use Rattle.survey_core.specs.declared.events.Event.{Event}
 use Rattle.survey_core.specs.declared.events.Event.TheVariants as events
 use Rattle.survey_core.specs.Recorded.{Recorded}
-use Rattle.survey_core.specs.Verdicts.{FailsFirst}
+use Rattle.survey_core.specs.Legal.{FailsFirst}
 use Rattle.survey_core.proofs.PartLemmas.{first_flaw_once, proved_has_no_flaw, one_first_part_lem, allowed_lacks_none_lem}
 use Rattle.result_file.specs.declared.entries.Entry.{Entry}
 use Rattle.result_file.specs.declared.entries.Format.{Format}

@@ -1,7 +1,7 @@
 -- What a checked file contains, and its lines.
 use Rattle.std.specs.Prelude.{ℕ, List, ◌∷◌, map}
 use Rattle.criteria_model.specs.Criteria.{Criteria}
-use Rattle.survey_core.specs.Laws.{IsComplete}
+use Rattle.survey_core.specs.Laws.{RanksEachClass}
 use Rattle.survey_core.specs.Recorded.{Recorded}
 use Rattle.result_file.specs.declared.entries.Format.{Format}
 use Rattle.result_file.specs.declared.kinds.Kind.{Kind}
@@ -44,4 +44,4 @@ IsRightContent (of_events format survey) = AreEvents format survey
 -- it is a survey in which an event that stands ranks each class; claims never are
 abbrev pub IsCompleteContent : Content → Type 0
 IsCompleteContent (of_claims criteria claims) = ⊥
-IsCompleteContent (of_events format survey) = IsComplete survey.listed survey.history
+IsCompleteContent (of_events format survey) = RanksEachClass survey.listed survey.history

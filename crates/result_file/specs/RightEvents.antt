@@ -7,7 +7,7 @@ use Rattle.survey_core.specs.declared.events.Event.{Event}
 use Rattle.survey_core.specs.declared.broken.Broken.{Broken}
 use Rattle.survey_core.specs.Legal.{IsLegal}
 use Rattle.survey_core.specs.Recorded.{Recorded}
-use Rattle.survey_core.specs.Verdicts.{FailsFirst}
+use Rattle.survey_core.specs.Legal.{FailsFirst}
 use Rattle.result_file.specs.declared.entries.Format.{Format}
 use Rattle.result_file.specs.declared.entries.Entry.{Entry}
 use Rattle.result_file.specs.declared.entries.Entry.TheVariants.{Eliminate, Issue}

@@ -1,6 +1,6 @@
 // The events of a result, one after the other.
 ghost use Rattle.std.specs.Prelude.{◌≡◌, ◌≢◌, ◌↔◌, ◌+◌, ◌<◌, ◌≤◌, [], length, OnOk, IfOk, IfErr, MatchOption, IsTrue};
-ghost use Rattle.survey_core.specs.Laws.{IsComplete};
+ghost use Rattle.survey_core.specs.Laws.{RanksEachClass};
 ghost use Rattle.result_file.specs.Checked.{begun, Fails};
 ghost use Rattle.result_file.specs.Contents.{of_events};
 ghost use Rattle.result_file.specs.Events.{Tells};
@@ -86,7 +86,7 @@ impl Survey {
 
     /// Whether each class has an eliminate or a commit that stands.
     pub(crate) fn is_complete(&self) -> bool
-        ensures { IsTrue result ↔ IsComplete self.now.survey.listed self.now.survey.history }
+        ensures { IsTrue result ↔ RanksEachClass self.now.survey.listed self.now.survey.history }
     {
         self.core.all_ranked()
     }

@@ -16,7 +16,7 @@ use Rattle.survey_core.specs.declared.events.Event.{Event}
 use Rattle.survey_core.specs.declared.events.Event.TheVariants.{Eliminate, Issue, Commit, Close, Withdraw}
 use Rattle.survey_core.specs.Histories.{class_at, committed}
 use Rattle.survey_core.specs.Parts.{Part, part, AllHold, FirstFails}
-use Rattle.survey_core.specs.Legal.{ProvesClass, HasFlaw, parts}
+use Rattle.survey_core.specs.Legal.{IsPlace, ProvesClass, HasFlaw, eliminate_parts, issue_parts, commit_parts, close_parts, withdraw_parts, parts}
 use Rattle.survey_core.specs.Laws.{OneFirstPart, AllowedLacksNone}
 use Rattle.survey_core.proofs.ListSteps.{some_and}
 
@@ -166,3 +166,31 @@ one_first_part_lem listed history event one other h k = first_once (parts listed
 
 pub allowed_lacks_none_lem : AllowedLacksNone
 allowed_lacks_none_lem listed history event name may = none_fails (parts listed history event) (are_proper listed history event) name may
+
+-- ---- where no class has the place
+other_name : {name other : Broken} {holds : Type 0} (later : Type 0) → (name ≡ other → ⊥) → (((name ≡ other) × (¬ holds)) ⊎ (holds × later)) → later
+other_name later differs (inl h) = absurd (differs h.0)
+other_name later differs (inr h) = h.1
+
+pub eliminate_lacks_class : (listed : Listed) (history : List Event) (place : ℕ) (verdict : Side) (c : Combination)
+    → FirstFails (eliminate_parts listed history place verdict c) broken.Class → ¬ IsPlace listed place
+eliminate_lacks_class listed history place verdict c (inl h) = h.1
+eliminate_lacks_class listed history place verdict c (inr h) = λ is.
+    elim (other_name _ (λ e. cc) h.1) [ inl flaw ↦ flaw | inr rest ↦ rest.1 ]
+
+pub issue_lacks_class : (listed : Listed) (history : List Event) (place : ℕ) (plus minus : List ℤ)
+    → FirstFails (issue_parts listed history place plus minus) broken.Class → ¬ IsPlace listed place
+issue_lacks_class listed history place plus minus (inl h) = h.1
+issue_lacks_class listed history place plus minus (inr h) = λ is.
+    other_name _ (λ e. cc) (other_name _ (λ e. cc) (other_name _ (λ e. cc) (other_name _ (λ e. cc) (other_name _ (λ e. cc) h.1))))
+
+pub commit_has_no_class : (listed : Listed) (history : List Event) (question : ℕ) (side : Side) (plus minus point : List ℤ)
+    → ¬ FirstFails (commit_parts listed history question side plus minus point) broken.Class
+commit_has_no_class listed history question side plus minus point h =
+    other_name _ (λ e. cc) (other_name _ (λ e. cc) (other_name _ (λ e. cc) (other_name _ (λ e. cc) h)))
+
+pub close_has_no_class : (history : List Event) (question : ℕ) → ¬ FirstFails (close_parts history question) broken.Class
+close_has_no_class history question h = other_name _ (λ e. cc) (other_name _ (λ e. cc) h)
+
+pub withdraw_has_no_class : (listed : Listed) (history : List Event) (answer : ℕ) → ¬ FirstFails (withdraw_parts listed history answer) broken.Class
+withdraw_has_no_class listed history answer h = other_name _ (λ e. cc) (other_name _ (λ e. cc) h)
