@@ -1,10 +1,10 @@
 -- Rows that change places, and the last row gone, keep what a dictionary keeps.
-use Rattle.std.proofs.Common.{◌≡◌, ◌≢◌, ◌∙◌, ◌⊎◌, inl, inr, ℕ, suc, ◌+◌, ◌-◌, ◌<◌, ◌≤◌, cond, eqb, ℤ, pos, ◌+ℤ◌, ◌-ℤ◌, ◌*ℤ◌, List, [], ◌∷◌, length, take, map, get_or, set, sym, ap, subst, refl, arith}
-use Rattle.std.proofs.lemmas.List.{length-take-le, get_or-take, take-set-le, take-take}
+use Rattle.std.proofs.Common.{◌≡◌, ◌≢◌, ◌∙◌, ◌⊎◌, inl, inr, ℕ, suc, ◌+◌, ◌-◌, ◌<◌, ◌≤◌, cond, eqb, ℤ, pos, ◌+ℤ◌, ◌-ℤ◌, ◌*ℤ◌, List, [], ◌∷◌, length, take, drop, map, get_or, set, sym, ap, subst, refl, arith}
+use Rattle.std.proofs.lemmas.List.{length-take-le, length-drop, get_or-take, get_or-drop, take-set-le, take-take, drop-take, drop-set-add}
 use Rattle.std.proofs.lemmas.Bool.{cases_eq, cases_lt}
 use Rattle.std.proofs.lemmas.List.FromFn.{length-range_with_len, get_or-range_with_len}
 use Rattle.std.proofs.lemmas.Bool.Decides.{nat_tests}
-use Rattle.std.specs.List.{SwappedAt, range_with_len}
+use Rattle.std.specs.List.{SwappedAt, range_with_len, swap_remove}
 use Rattle.minors.specs.Combination.{IsScale}
 use Rattle.minors.specs.Combination.{dot as dot_of}
 use Rattle.minors.proofs.Ring.{cancel, mul-add, mul_swap, mul_zero, zero_mul, mul-sub, sums}
@@ -12,7 +12,8 @@ use Rattle.criteria_model.specs.Rows.{dot}
 use Rattle.fraction_free.specs.declared.loaded.LoadedRow.{LoadedRow}
 use Rattle.fraction_free.specs.Arrangement.{IsArrangement, Arranged}
 use Rattle.fraction_free.specs.Dictionary.{IsLoadable, HasSlacks, loaded_at, no_row, slack_of, vector_of}
-use Rattle.fraction_free.specs.Representation.{table_row, square_of, AreMinors, IsRepresentation}
+use Rattle.fraction_free.specs.Changes.{DropsRow}
+use Rattle.fraction_free.specs.Representation.{table_row, square_of, view_of, AreMinors, IsRepresentation}
 use Rattle.fraction_free.proofs.Values.{same_dot}
 use Rattle.fraction_free.proofs.AddRow.{BeginsWith, table_row_same, square_same, moved}
 use Rattle.fraction_free.proofs.PivotKept.{Equations, equations_of, satisfies_from}
@@ -231,6 +232,43 @@ dropped_kept m l new_l s places new_places lines new_lines mid_lines mid_order a
       places_room = omega (arith, kept.places_room);
       has_lines_room = omega (arith, kept.has_lines_room);
       has_loaded_room = omega (arith, kept.has_loaded_room);
+    }
+
+-- what is left of two places exchanged, without the last, is what `swap_remove` leaves
+removed_end : {X : Type 0} (xs ys : List X) (i k : ℕ) (d : X) → length xs ≡ k + 1 → SwappedAt xs ys i k → take k ys ≡ swap_remove xs i d
+removed_end xs ys i k d len s =
+    let end : k ≡ length xs - 1 = omega arith in
+    ap (take k) (s.3 d) ∙ take-set-le k (set xs i (get_or xs k d)) k (get_or xs i d) (omega arith) ∙ ap (λ n. take n (set xs i (get_or xs n d))) end
+
+-- past the first n places of the list too
+drop-swap_remove : (n k i : ℕ) (xs : List ℕ) → length xs ≡ n + k + 1 → drop n (swap_remove xs (n + i) 0) ≡ swap_remove (drop n xs) i 0
+drop-swap_remove n k i xs len =
+    let whole : length xs - 1 ≡ n + k = omega arith in
+    let rest : k ≡ length (drop n xs) - 1 = omega (arith, length-drop n xs) in
+    ap (λ j. drop n (take j (set xs (n + i) (get_or xs j 0)))) whole
+    ∙ drop-take n k (set xs (n + i) (get_or xs (n + k) 0))
+    ∙ ap (take k) (drop-set-add n xs i (get_or xs (n + k) 0) ∙ ap (set (drop n xs) i) (sym (get_or-drop n xs k 0)))
+    ∙ ap (λ j. take j (set (drop n xs) i (get_or (drop n xs) j 0))) rest
+
+take-swap_remove : (n i : ℕ) (xs : List ℕ) → n ≤ i → n < length xs → take n (swap_remove xs i 0) ≡ take n xs
+take-swap_remove n i xs low high =
+    take-take n (length xs - 1) (set xs i (get_or xs (length xs - 1) 0)) (omega arith) ∙ take-set-le n xs i (get_or xs (length xs - 1) 0) low
+
+pub dropped_row : (m : ℕ) (l new_l : List LoadedRow) (s : ℤ) (order mid_order new_order : List ℕ) (lines mid_lines new_lines : List (List ℤ)) (a b e f k row : ℕ)
+    → length l ≡ k + 1 → length lines ≡ k + 1 → length order ≡ m + 1 + k + 1 → AreRowsSwapped m order lines mid_order mid_lines row k
+    → get_or (drop (m + 1) order) row 0 ≡ m + (k + 1)
+    → new_l ≡ take k l → new_lines ≡ take k mid_lines → new_order ≡ take (m + 1 + k) mid_order
+    → DropsRow (view_of m l s order lines a b e f) (view_of m new_l s new_order new_lines a b e f) row
+dropped_row m l new_l s order mid_order new_order lines mid_lines new_lines a b e f k row len lines_len order_len swapped slack l_is lines_is order_is =
+    let order_removed : new_order ≡ swap_remove order (m + 1 + row) 0 = order_is ∙ removed_end order mid_order (m + 1 + row) (m + 1 + k) 0 order_len swapped.order_swapped in
+    let loaded : new_l ≡ take (length l - 1) l = l_is ∙ ap (λ n. take n l) (omega arith) in
+    let lines_removed : new_lines ≡ swap_remove lines row [] = lines_is ∙ removed_end lines mid_lines row k [] lines_len swapped.lines_swapped in
+    let nonbasic : take m new_order ≡ take m order = ap (take m) order_removed ∙ take-swap_remove m (m + 1 + row) order (omega arith) (omega arith) in
+    let basic : drop (m + 1) new_order ≡ swap_remove (drop (m + 1) order) row 0 = ap (drop (m + 1)) order_removed ∙ drop-swap_remove (m + 1) k row order order_len in
+    record {
+      within = omega (arith, swapped.first_below);
+      slack = slack ∙ omega arith;
+      is = rw (loaded, nonbasic, basic, lines_removed) refl;
     }
 
 -- ---- a nonbasic slack has a row with an entry that isn't 0

@@ -1,8 +1,8 @@
 -- What the calls make of a dictionary.
-use Rattle.std.specs.Prelude.{ℕ, ◌+◌, ◌-◌, ◌^◌, ◌≡◌, ◌≢◌, ◌<◌, min, List, [], ◌∷◌, ◌++◌, length, take, slice_index, slice_index_or, slice_set, ℤ, pos, negsuc, neg_ℤ, ◌-ℤ◌, ◌*ℤ◌}
-use Rattle.std.specs.List.{range_with_len}
+use Rattle.std.specs.Prelude.{ℕ, ◌+◌, ◌-◌, ◌^◌, ◌≡◌, ◌≢◌, ◌<◌, ◌⊎◌, min, List, [], ◌∷◌, ◌++◌, length, take, slice_index, slice_index_or, slice_set, ℤ, pos, negsuc, neg_ℤ, ◌-ℤ◌, ◌*ℤ◌}
+use Rattle.std.specs.List.{range_with_len, swap_remove}
 use Rattle.fraction_free.specs.declared.loaded.LoadedRow.{LoadedRow}
-use Rattle.fraction_free.specs.Dictionary.{DictionaryView, line_of}
+use Rattle.fraction_free.specs.Dictionary.{DictionaryView, line_of, entry_in}
 
 -- a count that rises by one, or stands at its last value
 abbrev pub next_count : ℕ → ℕ
@@ -68,7 +68,31 @@ pub record IsPivoted (old new : DictionaryView) (row column : ℕ) : Type 0 wher
   pub other_lines : (other : ℕ) → other < length old.lines → other ≢ row
       → IsOtherLine old.scale column (line_of old row) (line_of old other) (line_of new other)
 
--- the last loaded row is gone
+-- the last loaded row goes with the equation of its slack, which is basic in `row`: the last equation takes that place, and all else stays
+pub record DropsRow (old new : DictionaryView) (row : ℕ) : Type 0 where
+  pub within : row < length old.loaded
+  pub slack : slice_index old.basic row ≡ old.columns + length old.loaded
+  pub is : new ≡ record old {
+    loaded = take (length old.loaded - 1) old.loaded;
+    basic = swap_remove old.basic row 0;
+    lines = swap_remove old.lines row [];
+  }
+
+-- the first row with an entry at the column that isn't 0
+pub record IsFirstWithEntry (dictionary : DictionaryView) (row column : ℕ) : Type 0 where
+  pub within : row < length dictionary.loaded
+  pub nonzero : entry_in dictionary row column ≢ pos 0
+  pub first : (other : ℕ) → other < row → entry_in dictionary other column ≡ pos 0
+
+-- the last slack, nonbasic in `column`, is pivoted on the first row with an entry there that isn't 0, and then its row goes
+pub record DropsPivoted (old new : DictionaryView) (column row : ℕ) (between : DictionaryView) : Type 0 where
+  pub within : column < old.columns
+  pub slack : slice_index old.nonbasic column ≡ old.columns + length old.loaded
+  pub first : IsFirstWithEntry old row column
+  pub pivoted : IsPivoted old between row column
+  pub dropped : DropsRow between new row
+
+-- the last loaded row goes: by itself where its slack is basic, and after a pivot where it is nonbasic
 pub record DropsLast (old new : DictionaryView) : Type 0 where
   pub loaded : new.loaded ≡ take (length old.loaded - 1) old.loaded
   pub columns : new.columns ≡ old.columns
@@ -76,13 +100,10 @@ pub record DropsLast (old new : DictionaryView) : Type 0 where
   pub room_rows : new.room_rows ≡ old.room_rows
   pub loads : new.loads ≡ old.loads
   pub added : new.added ≡ old.added
+  pub way : ((row : ℕ) × DropsRow old new row) ⊎ ((column : ℕ) × (row : ℕ) × (between : DictionaryView) × DropsPivoted old new column row between)
 
 -- one number of another row's line after a pivot, by the pivot's entry, the row's factor and the pivot row's number; the others are as they were
 pub record IsExchangedAt (scale entry factor other : ℤ) (old new : List ℤ) (place : ℕ) : Type 0 where
   pub len : length new ≡ length old
   pub divided : number_at new place *ℤ scale ≡ entry *ℤ number_at old place -ℤ factor *ℤ other
   pub others : (at : ℕ) → at ≢ place → number_at new at ≡ number_at old at
-
--- pivots change scale, variables and lines only
-abbrev pub IsPivotedAny : DictionaryView → DictionaryView → Type 0
-IsPivotedAny old new = new ≡ record old { scale = new.scale; nonbasic = new.nonbasic; basic = new.basic; lines = new.lines }

@@ -48,7 +48,7 @@ impl Model for Dictionary {
 
 impl Dictionary {
     ghost use Rattle.fraction_free.specs.Dictionary.{DictionaryView, IsDictionary, Satisfies, entry_in, constant_in, loaded_at};
-    ghost use Rattle.fraction_free.specs.Changes.{empty_dictionary, next_count, AddsRow, IsPivoted, IsPivotedAny, DropsLast};
+    ghost use Rattle.fraction_free.specs.Changes.{empty_dictionary, next_count, AddsRow, IsPivoted, DropsRow, DropsLast};
 
     /// A dictionary with no rows, and with room for so many columns and rows.
     pub fn reserve(alloc: Global, cols: u8, rows: u32) -> Result<Dictionary, NoMemory>
@@ -142,37 +142,28 @@ impl Dictionary {
         ensures dropped { DropsLast self.old self.new }
         ensures dictionary { IsDictionary self.new }
     {
-        let last = usize::from(self.columns) + self.loaded.len();
-        self.make_basic(last);
-        self.drop_basic(last);
-    }
-
-    /// Sees that the last slack is basic, by a pivot on the first row with an entry that is not 0.
-    fn make_basic(&mut self, last: usize)
-        requires some { 0 < length self.old.loaded }
-        requires last { last ≡ self.old.columns + length self.old.loaded }
-        ensures basic { Contains self.new.basic last }
-        ensures pivoted { IsPivotedAny self.old self.new }
-    {
-        let column = self.places.place(last);
-        if column < usize::from(self.columns) {
-            let row = first_row_with(self.lines.as_slice(), column);
-            self.pivot(row as u32 + 1, column as u8 + 1);
+        let columns = usize::from(self.columns);
+        let place = self.places.place(columns + self.loaded.len());
+        if place < columns {
+            let row = first_row_with(self.lines.as_slice(), place);
+            self.pivot(row as u32 + 1, place as u8 + 1);
+            self.drop_row(row);
+        } else {
+            self.drop_row(place - columns - 1);
         }
     }
 
-    /// The last added row goes, whose slack is basic.
-    fn drop_basic(&mut self, last: usize)
-        requires some { 0 < length self.old.loaded }
-        requires last { last ≡ self.old.columns + length self.old.loaded }
-        requires basic { Contains self.old.basic last }
-        ensures dropped { DropsLast self.old self.new }
+    /// The last added row goes, whose slack is basic in this row; the last line takes its place.
+    fn drop_row(&mut self, row: usize)
+        requires within { row < length self.old.loaded }
+        requires slack { slice_index self.old.basic row ≡ self.old.columns + length self.old.loaded }
+        ensures dropped { DropsRow self.old self.new row }
         ensures dictionary { IsDictionary self.new }
     {
-        let at = self.places.place(last);
-        self.lines
-            .swap(at - usize::from(self.columns) - 1, self.lines.len() - 1);
-        self.places.swap(at, last);
+        let rows = usize::from(self.columns) + 1;
+        let last = self.lines.len() - 1;
+        self.lines.swap(row, last);
+        self.places.swap(rows + row, rows + last);
         let _line = self.lines.pop();
         let _row = self.loaded.pop();
         self.places.pop();

@@ -1,9 +1,10 @@
 -- A row's equation, with all variables on one side: places from 0 on have the basic variable and then the nonbasic ones.
-use Rattle.std.specs.Prelude.{ℕ, zero, suc, ◌+◌, ◌-◌, ◌≡◌, ◌≢◌, ◌<◌, ◌≤◌, Bool, cond, ◌==◌, nat_lt, List, length, slice_index, ℤ, pos, neg_ℤ, ◌*ℤ◌, ◌<ℤ◌}
+use Rattle.std.specs.Prelude.{ℕ, zero, suc, ◌+◌, ◌-◌, ◌≡◌, ◌≢◌, ◌<◌, ◌≤◌, Bool, cond, ◌==◌, nat_lt, List, length, slice_index, slice_index_or, ℤ, pos, neg_ℤ, ◌*ℤ◌, ◌<ℤ◌}
 use Rattle.least_index.specs.Dictionary.{sum_below}
 use Rattle.least_index.specs.Rule.{first}
 use Rattle.fraction_free.specs.Dictionary.{DictionaryView, entry_in}
 use Rattle.simplex.specs.declared.row_weights.RowWeight.{RowWeight}
+use Rattle.simplex.specs.declared.found.Clash.{Clash}
 use Rattle.simplex.specs.Weights.{weighted}
 
 -- the variable at a place
@@ -39,6 +40,11 @@ HasNoNextWeight dictionary row above =
 abbrev pub HasSlackWeights : DictionaryView → ℕ → ℕ → List RowWeight → Type 0
 HasSlackWeights dictionary row bound rows =
     (of : ℕ → ℤ) → weighted of rows ≡ sum_below (λ variable. cond (nat_lt dictionary.columns variable) (weight_of dictionary row variable *ℤ of (variable - dictionary.columns)) (pos 0)) bound
+
+-- the weights of a clash are those of the row's equation
+pub record IsClashOf (dictionary : DictionaryView) (row : ℕ) (clash : Clash) : Type 0 where
+  pub increments : (column : ℕ) → column < dictionary.columns → slice_index_or clash.increments column (pos 0) ≡ weight_of dictionary row (column + 1)
+  pub rows : HasSlackWeights dictionary row (dictionary.columns + 1 + length dictionary.loaded) clash.rows
 
 -- how many numbers below n pass a test
 unfoldable pub how_many : (ℕ → Bool) → ℕ → ℕ

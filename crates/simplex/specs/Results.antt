@@ -8,6 +8,9 @@ use Rattle.simplex.specs.declared.found.Found.{Found}
 use Rattle.simplex.specs.declared.found.Found.TheVariants.{Point}
 use Rattle.simplex.specs.declared.found.Found.TheVariants as variant
 use Rattle.simplex.specs.Rows.{MeetsRows, IsCoprime}
+use Rattle.simplex.specs.Choice.{IsFeasible, IsLeavingRow, IsBlocked}
+use Rattle.simplex.specs.Point.{IsPointOf}
+use Rattle.simplex.specs.Equation.{IsClashOf}
 use Rattle.simplex.specs.Weights.{is_weight, AreRowWeights, weighted}
 
 -- a row's coefficient at a column; rows are numbered from 1, columns from 0
@@ -32,6 +35,11 @@ pub record IsClash (columns : ℕ) (loaded : List LoadedRow) (clash : Clash) : T
 abbrev pub IsFound : ℕ → List LoadedRow → Found → Type 0
 IsFound columns loaded (Point vector) = MeetsRows columns loaded vector × IsCoprime vector
 IsFound columns loaded (variant.Clash clash) = IsClash columns loaded clash × ((vector : List ℤ) → ¬ MeetsRows columns loaded vector)
+
+-- the rule names no pivot: at a point no basic variable is below 0, and at a clash none helps the variable that is to leave; what is found is read off there
+abbrev pub IsEnd : Found → DictionaryView → Type 0
+IsEnd (Point vector) dictionary = IsFeasible dictionary × IsPointOf dictionary vector
+IsEnd (variant.Clash clash) dictionary = (row : ℕ) × IsLeavingRow dictionary row × IsBlocked dictionary row × IsClashOf dictionary row clash
 
 -- the rows and all that does not change by pivots are as before
 pub record KeepsRows (old new : DictionaryView) : Type 0 where

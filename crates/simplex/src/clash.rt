@@ -4,7 +4,7 @@ ghost use Rattle.fraction_free.specs.Dictionary.{IsDictionary, constant_in};
 ghost use Rattle.simplex.specs.Rows.{MeetsRows};
 ghost use Rattle.simplex.specs.Weights.{is_weight, AreRowWeights};
 ghost use Rattle.simplex.specs.Choice.{IsBlocked};
-ghost use Rattle.simplex.specs.Equation.{variable_at, weight_at, weight_of, how_many, has_slack, IsNextWeight, HasNoNextWeight, HasSlackWeights};
+ghost use Rattle.simplex.specs.Equation.{variable_at, weight_at, weight_of, how_many, has_slack, IsNextWeight, HasNoNextWeight, HasSlackWeights, IsClashOf};
 ghost use Rattle.simplex.specs.Results.{IsClash};
 
 use crate::found::Clash;
@@ -20,6 +20,7 @@ pub fn clash_of(work: &Dictionary, row: u32) -> Clash
     requires negative { constant_in work.now (row - 1) <ℤ pos 0 }
     requires blocked { IsBlocked work.now (row - 1) }
     ensures clash { IsClash work.now.columns work.now.loaded result }
+    ensures weights { IsClashOf work.now (row - 1) result }
     ensures unmet { (vector : List ℤ) → ¬ MeetsRows work.now.columns work.now.loaded vector }
 {
     Clash {

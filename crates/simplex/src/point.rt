@@ -5,7 +5,7 @@ ghost use Rattle.criteria_model.specs.Rows.{times};
 ghost use Rattle.fraction_free.specs.Dictionary.{IsDictionary};
 ghost use Rattle.simplex.specs.Rows.{MeetsRows, IsCoprime};
 ghost use Rattle.simplex.specs.Choice.{IsFeasible};
-ghost use Rattle.simplex.specs.Point.{IsScaledPoint};
+ghost use Rattle.simplex.specs.Point.{IsScaledPoint, IsPointOf};
 
 use crate::divisor::{common_divisor, divided};
 use criteria_model::Vector;
@@ -16,6 +16,7 @@ pub fn point_of(work: &Dictionary) -> Vector
     requires { IsFeasible work.now }
     ensures meets { MeetsRows work.now.columns work.now.loaded result }
     ensures reduced { IsCoprime result }
+    ensures point { IsPointOf work.now result }
 {
     let values = scaled_point(work);
     reduced(values.as_slice())

@@ -1,5 +1,6 @@
 //! The solver's loop.
-ghost use Rattle.simplex.specs.Results.{IsFound, KeepsRows};
+ghost use Rattle.simplex.specs.Choice.{IsReached};
+ghost use Rattle.simplex.specs.Results.{IsFound, IsEnd, KeepsRows};
 ghost use Rattle.fraction_free.specs.Dictionary.{IsDictionary};
 
 use crate::choice::{entering_column, leaving_row};
@@ -12,6 +13,8 @@ use fraction_free::Dictionary;
 /// none meets them, a clash. Pivots by the least-index rule, from any dictionary.
 pub fn solve(work: &mut Dictionary) -> Found
     ensures found { IsFound work.old.columns work.old.loaded result }
+    ensures pivots { IsReached work.old work.new }
+    ensures end { IsEnd result work.new }
     ensures rows { KeepsRows work.old work.new }
     ensures dictionary { IsDictionary work.new }
 {
