@@ -30,6 +30,6 @@ pub record IsRulePivot (old new : DictionaryView) (row column : ℕ) : Type 0 wh
   pub pivoted : IsPivoted old new row column
 
 -- the rule's pivots lead from one dictionary to the other
-data pub IsReached (start : DictionaryView) : DictionaryView → Type 0 where
+pub data IsReached (start : DictionaryView) : DictionaryView → Type 0 where
   here : IsReached start start
   further : (old new : DictionaryView) (row column : ℕ) → IsReached start old → IsRulePivot old new row column → IsReached start new
