@@ -3,9 +3,9 @@ use Rattle.std.proofs.Common.{◌≡◌, ℕ, ◌+◌, ◌-◌, ◌≤◌, ◌<�
 use Rattle.std.proofs.lemmas.List.Sums.{sum_by_more, sum_by_more_le}
 use Rattle.std.proofs.lemmas.Slice.{take-put_mid}
 use borrow.Rule.Slice.PartMut.{put_mid, same_len_mid}
-use Rattle.criteria_model.specs.Rows.{minus}
+use Rattle.row_laws.specs.Rows.{minus}
 use Rattle.criteria_model.specs.Worth.{increments, has_on, has}
-use Rattle.criteria_model.proofs.RowLemmas.{length-minus}
+use Rattle.row_laws.proofs.RowLemmas.{length-minus}
 use Rattle.criteria_model.proofs.LevelLemmas.{minus-has-take_more, has_on-by, length-has_on}
 
 -- after i criteria the first `at` cells hold the differences on them; then `new` is written over the next `steps` cells

@@ -2,7 +2,7 @@
 use Rattle.std.proofs.Common.{◌≡◌, ℕ, ◌+◌, ◌*◌, ◌^◌, ◌≤◌, ◌<◌, ℤ, ◌+ℤ◌, ◌*ℤ◌, unsigned_abs, SFits, to_z, of_z, refl, ◌∙◌, arith, mul-le-mul_left}
 use mir.Syntax.{w128}
 use Rattle.std.proofs.lemmas.Int.{unsigned_abs-mul, fits_signed_from_abs, to_z-of_z}
-use Rattle.criteria_model.proofs.Integers.{unsigned_abs-add}
+use Rattle.row_laws.proofs.Integers.{unsigned_abs-add}
 
 pub term_size : (x f : ℤ) → unsigned_abs x < 2 ^ 96 → unsigned_abs f ≤ 1 → unsigned_abs (x *ℤ f) < 2 ^ 96
 term_size x f h k = omega (arith, unsigned_abs-mul x f, mul-le-mul_left (unsigned_abs x) k)

@@ -1,17 +1,17 @@
 -- Gains: their length and range, what they say of rankings, and that replicas have the same.
-use Rattle.std.proofs.Common.{◌≡◌, inl, inr, ℕ, List, ℤ, ap, sym, arith, length, pos, ◌≤ℤ◌}
+use Rattle.std.proofs.Common.{◌≡◌, inl, inr, ℕ, List, ℤ, refl, ap, sym, arith, length, pos, ◌-ℤ◌, ◌<ℤ◌, ◌≤ℤ◌}
 use Rattle.std.proofs.lemmas.Int.{ints}
 use Rattle.criteria_model.specs.declared.pairs.Pair.{Pair}
 use Rattle.criteria_model.specs.declared.pairs.Side.{Side}
 use Rattle.criteria_model.specs.declared.pairs.Side.TheVariants.{Left, Right, Equal}
 use Rattle.criteria_model.specs.Lists.{IsRow}
 use Rattle.criteria_model.specs.Criteria.{Criteria, IsModel}
-use Rattle.criteria_model.specs.Rows.{dot, minus}
+use Rattle.row_laws.specs.Rows.{dot, minus}
 use Rattle.criteria_model.specs.Worth.{increments, has}
 use Rattle.criteria_model.specs.Pairs.{IsFit, AreReplicas}
 use Rattle.criteria_model.specs.Answers.{Ranks, gain}
 use Rattle.criteria_model.specs.Laws.{ReplicasGainSame, ReplicasRankSame}
-use Rattle.criteria_model.proofs.RowLemmas.{dot-minus}
+use Rattle.row_laws.proofs.RowLemmas.{dot-minus}
 use Rattle.criteria_model.proofs.LevelLemmas.{AreMatched, MatchesAt, minus-has-matched, length-minus-has, minus-has-fits}
 
 -- ---- length and range
@@ -65,3 +65,30 @@ pub replicas_rank_same_lem : ReplicasRankSame
 replicas_rank_same_lem levels values p q Left r h = omega (arith, ints, h, worths_apart levels values p q r, dot-minus values (has levels p.left) (has levels p.right), dot-minus values (has levels q.left) (has levels q.right))
 replicas_rank_same_lem levels values p q Right r h = omega (arith, ints, h, worths_apart levels values p q r, dot-minus values (has levels p.left) (has levels p.right), dot-minus values (has levels q.left) (has levels q.right))
 replicas_rank_same_lem levels values p q Equal r h = omega (arith, ints, h, worths_apart levels values p q r, dot-minus values (has levels p.left) (has levels p.right), dot-minus values (has levels q.left) (has levels q.right))
+
+-- ---- which way values rank a pair, by the lead of its left side
+abbrev pub Leads : Side → ℤ → Type 0
+Leads Left lead = pos 0 <ℤ lead
+Leads Right lead = lead <ℤ pos 0
+Leads Equal lead = lead ≡ pos 0
+
+module _ (levels : List ℕ) (values : List ℤ) (pair : Pair) (lead : ℤ) (lead_is : lead ≡ dot values (gain levels pair Left)) where
+  -- the lead is the difference of the worths
+  worths : dot values (minus (has levels pair.left) (has levels pair.right)) ≡ dot values (has levels pair.left) -ℤ dot values (has levels pair.right)
+  worths = dot-minus values (has levels pair.left) (has levels pair.right)
+
+  pub leads_ranks : (side : Side) → Leads side lead → Ranks levels values pair side
+  leads_ranks Left h = omega (arith, ints, h, worths, lead_is)
+  leads_ranks Right h = omega (arith, ints, h, worths, lead_is)
+  leads_ranks Equal h = omega (arith, ints, h, worths, lead_is)
+
+  pub leads_only : (side other : Side) → Leads side lead → Ranks levels values pair other → other ≡ side
+  leads_only Left Left h r = refl
+  leads_only Right Right h r = refl
+  leads_only Equal Equal h r = refl
+  leads_only Left Right h r = absurd (omega (arith, ints, h, r, worths, lead_is))
+  leads_only Left Equal h r = absurd (omega (arith, ints, h, r, worths, lead_is))
+  leads_only Right Left h r = absurd (omega (arith, ints, h, r, worths, lead_is))
+  leads_only Right Equal h r = absurd (omega (arith, ints, h, r, worths, lead_is))
+  leads_only Equal Left h r = absurd (omega (arith, ints, h, r, worths, lead_is))
+  leads_only Equal Right h r = absurd (omega (arith, ints, h, r, worths, lead_is))

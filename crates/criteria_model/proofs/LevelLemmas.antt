@@ -7,11 +7,11 @@ use Rattle.std.proofs.lemmas.List.Sums.{sum_by_more_le, sum_by-cons}
 use Rattle.std.proofs.lemmas.List.FromFn.{length-map-range_with_len, map-range_with_len_more}
 use Rattle.std.proofs.lemmas.Bool.Decides.{nat_tests}
 use Rattle.std.proofs.lemmas.List.Elements.{All-append}
-use Rattle.criteria_model.specs.Rows.{minus}
+use Rattle.row_laws.specs.Rows.{minus}
 use Rattle.criteria_model.specs.Lists.{IsTuple, IsRow}
 use Rattle.criteria_model.specs.Alternatives.{filled}
 use Rattle.criteria_model.specs.Worth.{increments, lies_above, has_on, has}
-use Rattle.criteria_model.proofs.RowLemmas.{length-minus, minus-append, minus-self, minus-zeros}
+use Rattle.row_laws.proofs.RowLemmas.{length-minus, minus-append, minus-self, minus-zeros}
 
 pub increments-cons : (n : ℕ) (levels : List ℕ) → increments (n ∷ levels) ≡ (n - 1) + increments levels
 increments-cons n levels = sum_by-cons (λ n. n - 1) n levels

@@ -1,7 +1,4 @@
-pub mod Integers
-pub mod RowLemmas
 pub mod LevelLemmas
-pub mod ListLemmas
 pub mod DominanceLemmas
 pub mod CountLemmas
 pub mod DotLemmas

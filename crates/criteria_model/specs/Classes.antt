@@ -3,6 +3,7 @@ use Rattle.std.specs.Prelude.{◌≡◌, ◌↔◌, ℕ, ◌≤◌, List, [], �
 use Rattle.std.specs.Ordering.{nat_cmp}
 use Rattle.std.specs.declared.cmp.Ordering.TheVariants.{Less}
 use Rattle.std.specs.Cmp.Lexicographic.{slice_cmp}
+use Rattle.criteria_model.specs.declared.limits.TheConstants.{MAX_LEVEL}
 use Rattle.criteria_model.specs.declared.pairs.Pair.{Pair}
 use Rattle.criteria_model.specs.Alternatives.{IsUndominated, filled, degree}
 use Rattle.criteria_model.specs.Pairs.{IsFit, IsCancelled, IsLeftFirst}
@@ -16,9 +17,9 @@ pub record IsClass (criteria : Criteria) (pair : Pair) : Type 0 where
   pub undominated : IsUndominated (filled pair.left) (filled pair.right)
   pub within : degree pair.left pair.right ≤ criteria.degree
 
--- a level as the order reads it: a cancelled place counts as 25
+-- a level as the order reads it: a cancelled place counts as the highest level
 abbrev pub order_level : ℕ → ℕ
-order_level level = if level == 0 then 25 else level
+order_level level = if level == 0 then MAX_LEVEL else level
 
 -- what the order compares: the degree, then criterion by criterion the left and the right level
 abbrev pub order_key : Pair → List ℕ

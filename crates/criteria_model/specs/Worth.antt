@@ -1,7 +1,7 @@
 -- Increments, value vectors and worths of the additive model (PAPRIKA: Hansen and Ombler 2008).
 use Rattle.std.specs.Prelude.{◌≡◌, ℕ, ◌-◌, List, [], ◌∷◌, ◌++◌, length, map, sum_by, All, nat_lt, if◌then◌else◌, ℤ, pos, ◌≤ℤ◌}
 use Rattle.std.specs.List.{range_with_len}
-use Rattle.criteria_model.specs.Rows.{dot}
+use Rattle.row_laws.specs.Rows.{dot}
 
 -- how many increments there are: one between each two neighbouring levels of a criterion
 abbrev pub increments : List ℕ → ℕ

@@ -1,16 +1,18 @@
 // For each increment, what one list of levels has more than another.
 ghost use Rattle.std.specs.Prelude.{◌≡◌, ◌+◌, ◌≤◌, ◌-ℤ◌, length, take};
-ghost use Rattle.criteria_model.specs.Rows.{minus};
+ghost use Rattle.row_laws.specs.Rows.{minus};
 ghost use Rattle.criteria_model.specs.Worth.{increments, has, has_on, lies_above};
 
-/// For each increment, whether the first has it minus whether the second has it, and 0 behind them.
-pub(crate) fn differences(counts: &[u8], high: &[u8], low: &[u8]) -> [i8; 24]
-    requires few { increments counts.now ≤ 24 }
+use crate::limits::MAX_INCREMENTS;
+
+/// For each increment, whether the first has it minus whether the second has it, and 0 after them.
+pub(crate) fn differences(counts: &[u8], high: &[u8], low: &[u8]) -> [i8; MAX_INCREMENTS]
+    requires few { increments counts.now ≤ MAX_INCREMENTS }
     requires high_len { length high.now ≡ length counts.now }
     requires low_len { length low.now ≡ length counts.now }
     ensures { take (increments counts.now) result ≡ minus (has counts.now high.now) (has counts.now low.now) }
 {
-    let mut cells = [0; 24];
+    let mut cells = [0; MAX_INCREMENTS];
     let mut at = 0;
     for place in 0..counts.len() {
         let steps = usize::from(counts[place]).saturating_sub(1);

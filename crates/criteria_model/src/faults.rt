@@ -5,10 +5,10 @@ pub enum ModelFault {
     NoCriteria,
     /// The first criterion, counted from 1, with fewer than 2 levels.
     Levels { criterion: u32 },
-    /// More than 24 increments.
+    /// More than [`MAX_INCREMENTS`](crate::MAX_INCREMENTS) increments.
     Increments { count: u64 },
     /// The degree limit isn't from 1 to the number of criteria.
     Degree,
-    /// More than 16,384 classes.
+    /// More than [`MAX_CLASSES`](crate::MAX_CLASSES) classes.
     Classes { count: u128 },
 }

@@ -3,7 +3,7 @@ ghost use Rattle.std.specs.Prelude.{◌≡◌, ◌↔◌, ◌≤◌, length, IsT
 ghost use Rattle.criteria_model.specs.Alternatives.{IsSomewhereHigher, IsUndominated, degree as degree_between};
 ghost use Rattle.criteria_model.specs.Pairs.{FitsAt, IsCancelled, IsLeftFirst};
 
-/// Whether the levels fit a criterion of so many levels: both 0, or both levels of it.
+/// Whether both levels are 0, or both are levels of a criterion of `count` levels.
 fn fits_at(count: u8, left: u8, right: u8) -> bool
     ensures { IsTrue result ↔ FitsAt count left right }
 {

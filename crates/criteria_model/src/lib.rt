@@ -12,6 +12,7 @@
 #![tactic(auto)]
 
 pub use faults::ModelFault;
+pub use limits::{CERTIFICATE_BOUND, MAX_CLASSES, MAX_INCREMENTS, MAX_LEVEL};
 pub use models::Model;
 pub use pairs::{Answer, Dominance, Pair, Side};
 pub use rows::Row;
@@ -23,6 +24,7 @@ mod differences;
 mod faults;
 pub mod laws;
 mod levels;
+mod limits;
 mod models;
 mod pairs;
 mod rows;

@@ -1,14 +1,14 @@
 ghost use Rattle.std.specs.Prelude.{◌≡◌, ◌↔◌, ◌-◌, ◌^◌, ◌<◌, ◌≤◌, Some, None, length, slice_get, MatchResult, IsTrue, unsigned_abs};
 ghost use Rattle.criteria_model.specs.declared.pairs.Side.{Side};
 ghost use Rattle.criteria_model.specs.declared.pairs.Side.TheVariants.{Left as LeftSide};
-ghost use Rattle.criteria_model.specs.Rows.{minus};
+ghost use Rattle.row_laws.specs.Rows.{minus};
 ghost use Rattle.criteria_model.specs.Worth.{increments as increment_count, has, worth};
 ghost use Rattle.criteria_model.specs.Counts.{class_count as count_of_classes};
 ghost use Rattle.criteria_model.specs.Criteria.{IsModel};
 ghost use Rattle.criteria_model.specs.Faults.{model_fault};
 ghost use Rattle.criteria_model.specs.Alternatives.{HasDominance, filled, degree as degree_between};
 ghost use Rattle.criteria_model.specs.Pairs.{IsFit};
-ghost use Rattle.criteria_model.specs.Answers.{gain as gain_of};
+ghost use Rattle.criteria_model.specs.Answers.{Ranks, gain as gain_of};
 ghost use Rattle.criteria_model.specs.Classes.{IsClass as IsClassOf};
 
 use crate::counting::{count_classes, count_increments, first_low, tuple_of};
@@ -17,10 +17,12 @@ use crate::faults::ModelFault;
 use crate::levels::{
     all_fit, degree, is_cancelled, is_left_first, is_somewhere_higher, is_undominated,
 };
+use crate::limits::{MAX_CLASSES, MAX_INCREMENTS, MAX_LEVEL};
 use crate::pairs::{Dominance, Pair, Side};
 use crate::rows::Row;
 use crate::tuples::Tuple;
 use crate::vectors::Vector;
+use std::cmp::Ordering;
 
 /// The level counts of the criteria and the greatest degree of a question, within this project's limits.
 #[derive(Clone, Copy, PartialEq, Eq, Debug)]
@@ -78,7 +80,7 @@ impl Model {
         requires low { 1 ≤ criterion }
         requires high { criterion ≤ length self.now.levels }
         ensures value { slice_get self.now.levels (criterion - 1) ≡ Some result }
-        ensures range { (2 ≤ result) × (result ≤ 25) }
+        ensures range { (2 ≤ result) × (result ≤ MAX_LEVEL) }
     {
         self.counts.item(usize::from(criterion))
     }
@@ -121,7 +123,7 @@ impl Model {
             });
         }
         let count = count_increments(levels);
-        if count > 24 {
+        if count > MAX_INCREMENTS as u64 {
             return Err(ModelFault::Increments { count });
         }
         if degree < 1 || degree as usize > levels.len() {
@@ -129,7 +131,7 @@ impl Model {
         }
         let counts = tuple_of(levels);
         let classes = count_classes(counts.as_slice(), degree as usize);
-        if classes > 16_384 {
+        if classes > u64::from(MAX_CLASSES) {
             return Err(ModelFault::Classes {
                 count: u128::from(classes),
             });
@@ -224,8 +226,23 @@ impl Model {
         ensures value { result ≡ worth self.now.levels vector.now alternative.now }
         ensures range { unsigned_abs result < 2 ^ 101 }
     {
-        let lowest = Tuple::of(&[0; 24][..alternative.len()]);
+        let lowest = Tuple::of(&[0; MAX_INCREMENTS][..alternative.len()]);
         vector.dot(&self.difference(alternative, &lowest))
+    }
+
+    /// Which side of the pair is worth more by these values.
+    pub fn ranking(&self, vector: &Vector, pair: &Pair) -> Side
+        requires vector_len { length vector.now ≡ increment_count self.now.levels }
+        requires fits { IsFit self.now.levels pair.now }
+        ensures ranks { Ranks self.now.levels vector.now pair.now result }
+        ensures only { (side : Side) → Ranks self.now.levels vector.now pair.now side → side ≡ result }
+    {
+        let lead = vector.dot(&self.row(pair));
+        match lead.cmp(&0) {
+            Ordering::Greater => Side::Left,
+            Ordering::Less => Side::Right,
+            Ordering::Equal => Side::Equal,
+        }
     }
 
     /// For each increment, whether the first has it minus whether the second has it.

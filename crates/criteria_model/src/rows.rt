@@ -1,31 +1,35 @@
 ghost use Rattle.std.specs.Prelude.{◌≡◌, ◌-◌, ◌≤◌, Some, length, slice_get, unsigned_abs};
 ghost use Rattle.criteria_model.specs.Lists.{IsRow};
 
+use crate::limits::MAX_INCREMENTS;
 use std::marker::Model;
 
-/// A list of 1 to 24 of -1, 0 and 1: for each increment, what one side of a pair has more than the other.
-// The cells behind the items hold 0, so that equal lists are equal values.
+/// A list of 1 to [`MAX_INCREMENTS`] of -1, 0 and 1: for each increment, what one side of a pair has
+/// more than the other.
+// The cells after the items hold 0, so that equal lists are equal values.
 #[derive(Clone, Copy, PartialEq, Eq, Debug)]
 pub struct Row {
-    items: [i8; 24],
+    items: [i8; MAX_INCREMENTS],
     len: u8,
 }
 
 impl Model for Row {
     ghost use Rattle.std.specs.Prelude.{ℤ, pos, List, length, take};
-    ghost use Rattle.criteria_model.specs.Lists.{IsRow, IsPadded, padded, padded-take, length-padded};
+    ghost use Rattle.criteria_model.specs.declared.limits.TheConstants.{MAX_INCREMENTS};
+    ghost use Rattle.criteria_model.specs.Lists.{IsRow};
+    ghost use Rattle.row_laws.specs.Padded.{IsPadded, padded, padded-take, length-padded};
 
     ghost Value = { List ℤ };
 
     ghost view = { λ t. take t.len t.items };
 
-    ghost invariant = { λ t. IsPadded (pos 0) t.len t.items × IsRow (take t.len t.items) };
+    ghost invariant = { λ t. IsPadded MAX_INCREMENTS (pos 0) t.len t.items × IsRow (take t.len t.items) };
 
-    ghost inverse = { λ items. record { items = padded (pos 0) items; len = length items } };
+    ghost inverse = { λ items. record { items = padded MAX_INCREMENTS (pos 0) items; len = length items } };
 
     ghost inverse_ok = { λ t h i. record {
-      items = padded-take (pos 0) t.len t.items h.0 i;
-      len = length-padded (pos 0) t.len t.items h.0 i;
+      items = padded-take MAX_INCREMENTS (pos 0) t.len t.items h.0 i;
+      len = length-padded MAX_INCREMENTS (pos 0) t.len t.items h.0 i;
     } };
 }
 
@@ -36,7 +40,7 @@ impl Row {
         ensures { result ≡ items.now }
     {
         let count = items.len();
-        let mut cells = [0; 24];
+        let mut cells = [0; MAX_INCREMENTS];
         cells[..count].copy_from_slice(items);
         Row {
             items: cells,

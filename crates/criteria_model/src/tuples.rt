@@ -1,31 +1,34 @@
 ghost use Rattle.std.specs.Prelude.{◌≡◌, ◌-◌, ◌≤◌, Some, length, slice_get};
 ghost use Rattle.criteria_model.specs.Lists.{IsTuple};
 
+use crate::limits::{MAX_INCREMENTS, MAX_LEVEL};
 use std::marker::Model;
 
-/// A list of 1 to 24 numbers from 0 to 25, as the levels of an alternative.
-// The cells behind the items hold 0, so that equal lists are equal values.
+/// A list of 1 to [`MAX_INCREMENTS`] numbers up to [`MAX_LEVEL`], as the levels of an alternative.
+// The cells after the items hold 0, so that equal lists are equal values.
 #[derive(Clone, Copy, PartialEq, Eq, Debug)]
 pub struct Tuple {
-    items: [u8; 24],
+    items: [u8; MAX_INCREMENTS],
     len: u8,
 }
 
 impl Model for Tuple {
     ghost use Rattle.std.specs.Prelude.{ℕ, List, length, take};
-    ghost use Rattle.criteria_model.specs.Lists.{IsTuple, IsPadded, padded, padded-take, length-padded};
+    ghost use Rattle.criteria_model.specs.declared.limits.TheConstants.{MAX_INCREMENTS};
+    ghost use Rattle.criteria_model.specs.Lists.{IsTuple};
+    ghost use Rattle.row_laws.specs.Padded.{IsPadded, padded, padded-take, length-padded};
 
     ghost Value = { List ℕ };
 
     ghost view = { λ t. take t.len t.items };
 
-    ghost invariant = { λ t. IsPadded 0 t.len t.items × IsTuple (take t.len t.items) };
+    ghost invariant = { λ t. IsPadded MAX_INCREMENTS 0 t.len t.items × IsTuple (take t.len t.items) };
 
-    ghost inverse = { λ items. record { items = padded 0 items; len = length items } };
+    ghost inverse = { λ items. record { items = padded MAX_INCREMENTS 0 items; len = length items } };
 
     ghost inverse_ok = { λ t h i. record {
-      items = padded-take 0 t.len t.items h.0 i;
-      len = length-padded 0 t.len t.items h.0 i;
+      items = padded-take MAX_INCREMENTS 0 t.len t.items h.0 i;
+      len = length-padded MAX_INCREMENTS 0 t.len t.items h.0 i;
     } };
 }
 
@@ -36,7 +39,7 @@ impl Tuple {
         ensures { result ≡ items.now }
     {
         let count = items.len();
-        let mut cells = [0; 24];
+        let mut cells = [0; MAX_INCREMENTS];
         cells[..count].copy_from_slice(items);
         Tuple {
             items: cells,
@@ -57,7 +60,7 @@ impl Tuple {
         requires low { 1 ≤ place }
         requires high { place ≤ length self.now }
         ensures value { slice_get self.now (place - 1) ≡ Some result }
-        ensures range { result ≤ 25 }
+        ensures range { result ≤ MAX_LEVEL }
     {
         self.as_slice()[place - 1]
     }

@@ -1,33 +1,37 @@
 ghost use Rattle.std.specs.Prelude.{◌≡◌, ◌-◌, ◌^◌, ◌<◌, ◌≤◌, Some, length, slice_get, unsigned_abs};
 ghost use Rattle.criteria_model.specs.Lists.{IsVector};
-ghost use Rattle.criteria_model.specs.Rows.{dot as sum_of_products};
+ghost use Rattle.row_laws.specs.Rows.{dot as sum_of_products};
 
+use crate::limits::{CERTIFICATE_BOUND, MAX_INCREMENTS};
 use crate::rows::Row;
 use std::marker::Model;
 
-/// A list of 1 to 24 whole numbers below 2^96 in size, as the values of a model's increments.
-// The cells behind the items hold 0, so that equal lists are equal values.
+/// A list of 1 to [`MAX_INCREMENTS`] whole numbers below [`CERTIFICATE_BOUND`] in size, as the values
+/// of a model's increments.
+// The cells after the items hold 0, so that equal lists are equal values.
 #[derive(Clone, Copy, PartialEq, Eq, Debug)]
 pub struct Vector {
-    items: [i128; 24],
+    items: [i128; MAX_INCREMENTS],
     len: u8,
 }
 
 impl Model for Vector {
     ghost use Rattle.std.specs.Prelude.{ℤ, pos, List, length, take};
-    ghost use Rattle.criteria_model.specs.Lists.{IsVector, IsPadded, padded, padded-take, length-padded};
+    ghost use Rattle.criteria_model.specs.declared.limits.TheConstants.{MAX_INCREMENTS};
+    ghost use Rattle.criteria_model.specs.Lists.{IsVector};
+    ghost use Rattle.row_laws.specs.Padded.{IsPadded, padded, padded-take, length-padded};
 
     ghost Value = { List ℤ };
 
     ghost view = { λ t. take t.len t.items };
 
-    ghost invariant = { λ t. IsPadded (pos 0) t.len t.items × IsVector (take t.len t.items) };
+    ghost invariant = { λ t. IsPadded MAX_INCREMENTS (pos 0) t.len t.items × IsVector (take t.len t.items) };
 
-    ghost inverse = { λ items. record { items = padded (pos 0) items; len = length items } };
+    ghost inverse = { λ items. record { items = padded MAX_INCREMENTS (pos 0) items; len = length items } };
 
     ghost inverse_ok = { λ t h i. record {
-      items = padded-take (pos 0) t.len t.items h.0 i;
-      len = length-padded (pos 0) t.len t.items h.0 i;
+      items = padded-take MAX_INCREMENTS (pos 0) t.len t.items h.0 i;
+      len = length-padded MAX_INCREMENTS (pos 0) t.len t.items h.0 i;
     } };
 }
 
@@ -38,7 +42,7 @@ impl Vector {
         ensures { result ≡ items.now }
     {
         let count = items.len();
-        let mut cells = [0; 24];
+        let mut cells = [0; MAX_INCREMENTS];
         cells[..count].copy_from_slice(items);
         Vector {
             items: cells,
@@ -59,7 +63,7 @@ impl Vector {
         requires low { 1 ≤ place }
         requires high { place ≤ length self.now }
         ensures value { slice_get self.now (place - 1) ≡ Some result }
-        ensures range { unsigned_abs result < 2 ^ 96 }
+        ensures range { unsigned_abs result < CERTIFICATE_BOUND }
     {
         self.as_slice()[place - 1]
     }

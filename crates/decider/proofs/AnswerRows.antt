@@ -9,12 +9,12 @@ use Rattle.criteria_model.specs.declared.pairs.Pair.{Pair}
 use Rattle.criteria_model.specs.declared.pairs.Answer.{Answer}
 use Rattle.criteria_model.specs.declared.pairs.Side.{Side}
 use Rattle.criteria_model.specs.declared.pairs.Side.TheVariants.{Left, Right, Equal}
-use Rattle.criteria_model.specs.Rows.{dot, minus, times}
+use Rattle.row_laws.specs.Rows.{dot, minus, times}
 use Rattle.criteria_model.specs.Worth.{has, increments, IsValueVector}
 use Rattle.criteria_model.specs.Answers.{Ranks, Meets, MeetsAll, gain}
-use Rattle.criteria_model.proofs.Integers.{positive_from_multiple, zero_from_multiple}
+use Rattle.row_laws.proofs.Signs.{positive_from_multiple, zero_from_multiple}
 use Rattle.criteria_model.proofs.GainLemmas.{Favours, ranks_favours, favours_ranks}
-use Rattle.criteria_model.proofs.RowLemmas.{dot-minus, dot-times, length-times}
+use Rattle.row_laws.proofs.RowLemmas.{dot-minus, dot-times, length-times}
 use Rattle.fraction_free.specs.declared.loaded.LoadedRow.{LoadedRow}
 use Rattle.fraction_free.specs.Dictionary.{DictionaryView, no_row}
 use Rattle.simplex.specs.Rows.{MeetsRows}

@@ -8,11 +8,12 @@ use Rattle.criteria_model.specs.declared.pairs.Pair.{Pair}
 use Rattle.criteria_model.specs.declared.pairs.Answer.{Answer}
 use Rattle.criteria_model.specs.declared.pairs.Side.{Side}
 use Rattle.criteria_model.specs.declared.pairs.Side.TheVariants.{Left, Right, Equal}
-use Rattle.criteria_model.specs.Rows.{dot, plus, times}
+use Rattle.row_laws.specs.Rows.{dot, plus, times}
 use Rattle.criteria_model.specs.Worth.{has}
 use Rattle.criteria_model.specs.Answers.{Ranks, MeetsAll, Opens, gain}
-use Rattle.criteria_model.proofs.Integers.{mul-neg, mul_positive}
-use Rattle.criteria_model.proofs.RowLemmas.{dot-plus, dot-times, dot-minus, length-plus, length-times}
+use Rattle.row_laws.proofs.Integers.{mul-neg}
+use Rattle.row_laws.proofs.Signs.{mul_positive}
+use Rattle.row_laws.proofs.RowLemmas.{dot-plus, dot-times, dot-minus, length-plus, length-times}
 use Rattle.criteria_model.proofs.GainLemmas.{Favours, ranks_favours, favours_ranks}
 use Rattle.decider.proofs.AnswerRows.{dot-comm}
 

@@ -12,12 +12,12 @@ use Rattle.criteria_model.specs.declared.pairs.Pair.{Pair}
 use Rattle.criteria_model.specs.declared.pairs.Answer.{Answer}
 use Rattle.criteria_model.specs.declared.pairs.Side.{Side}
 use Rattle.criteria_model.specs.declared.pairs.Side.TheVariants.{Left, Right, Equal}
-use Rattle.criteria_model.specs.Rows.{minus, plus, times}
+use Rattle.row_laws.specs.Rows.{minus, plus, times}
 use Rattle.criteria_model.specs.Worth.{has, increments}
 use Rattle.criteria_model.specs.Pairs.{IsFit}
 use Rattle.criteria_model.specs.Answers.{gain}
 use Rattle.criteria_model.proofs.GainLemmas.{length-gain}
-use Rattle.criteria_model.proofs.RowLemmas.{length-plus, length-times}
+use Rattle.row_laws.proofs.RowLemmas.{length-plus, length-times}
 use Rattle.farkas_check.specs.declared.cites.Cite.{Cite}
 use Rattle.farkas_check.specs.Sums.{cited_gain, total}
 use Rattle.farkas_check.specs.Proof.{IsThere}

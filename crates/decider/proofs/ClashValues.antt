@@ -5,9 +5,9 @@ use Rattle.std.proofs.lemmas.Int.{ints}
 use Rattle.std.proofs.lemmas.List.{get_or_append_left}
 use Rattle.std.proofs.lemmas.List.Elements.{All-head, All-tail}
 use Rattle.minors.proofs.Ring.{sums, mul_zero}
-use Rattle.criteria_model.specs.Rows.{dot, plus, times}
-use Rattle.criteria_model.proofs.Integers.{mul_nonneg, mul_positive}
-use Rattle.criteria_model.proofs.RowLemmas.{dot-plus, dot-times}
+use Rattle.row_laws.specs.Rows.{dot, plus, times}
+use Rattle.row_laws.proofs.Signs.{mul_nonneg, mul_positive}
+use Rattle.row_laws.proofs.RowLemmas.{dot-plus, dot-times}
 use Rattle.fraction_free.specs.declared.loaded.LoadedRow.{LoadedRow}
 use Rattle.fraction_free.specs.Dictionary.{loaded_at, no_row}
 use Rattle.simplex.specs.declared.row_weights.RowWeight.{RowWeight}

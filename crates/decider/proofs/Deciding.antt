@@ -6,12 +6,12 @@ use Rattle.criteria_model.specs.declared.pairs.Pair.{Pair}
 use Rattle.criteria_model.specs.declared.pairs.Answer.{Answer}
 use Rattle.criteria_model.specs.declared.pairs.Side.{Side}
 use Rattle.criteria_model.specs.declared.pairs.Side.TheVariants.{Left, Right, Equal}
-use Rattle.criteria_model.specs.Rows.{dot, times}
+use Rattle.row_laws.specs.Rows.{dot, times}
 use Rattle.criteria_model.specs.Worth.{has, increments}
 use Rattle.criteria_model.specs.Pairs.{IsFit}
 use Rattle.criteria_model.specs.Answers.{Ranks, MeetsAll, IsRanked, IsOpen, Opens, gain}
-use Rattle.criteria_model.proofs.RowLemmas.{dot-minus, dot-times, length-times}
-use Rattle.criteria_model.proofs.Integers.{positive_from_multiple}
+use Rattle.row_laws.proofs.RowLemmas.{dot-minus, dot-times, length-times}
+use Rattle.row_laws.proofs.Signs.{positive_from_multiple}
 use Rattle.farkas_check.specs.declared.combination.Combination.{Combination}
 use Rattle.farkas_check.specs.Proof.{Proves}
 use Rattle.fraction_free.specs.declared.loaded.LoadedRow.{LoadedRow}

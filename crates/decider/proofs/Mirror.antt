@@ -8,11 +8,11 @@ use Rattle.criteria_model.specs.declared.pairs.Pair.{Pair}
 use Rattle.criteria_model.specs.declared.pairs.Answer.{Answer}
 use Rattle.criteria_model.specs.declared.pairs.Side.{Side}
 use Rattle.criteria_model.specs.declared.pairs.Side.TheVariants.{Left, Right, Equal}
-use Rattle.criteria_model.specs.Rows.{dot, minus, times}
+use Rattle.row_laws.specs.Rows.{dot, minus, times}
 use Rattle.criteria_model.specs.Worth.{has, worth}
 use Rattle.criteria_model.specs.Answers.{Ranks, Meets, MeetsAll, gain}
 use Rattle.criteria_model.proofs.GainLemmas.{Favours, ranks_favours, favours_ranks}
-use Rattle.criteria_model.proofs.RowLemmas.{dot-minus, dot-times, length-minus, length-times}
+use Rattle.row_laws.proofs.RowLemmas.{dot-minus, dot-times, length-minus, length-times}
 use Rattle.decider.proofs.AnswerRows.{dot-comm}
 
 -- a multiple of the one vector, without the other

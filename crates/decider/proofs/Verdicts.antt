@@ -11,12 +11,12 @@ use Rattle.criteria_model.specs.declared.pairs.Pair.{Pair}
 use Rattle.criteria_model.specs.declared.pairs.Answer.{Answer}
 use Rattle.criteria_model.specs.declared.pairs.Side.{Side}
 use Rattle.criteria_model.specs.declared.pairs.Side.TheVariants.{Left, Right, Equal}
-use Rattle.criteria_model.specs.Rows.{times}
+use Rattle.row_laws.specs.Rows.{times}
 use Rattle.criteria_model.specs.Worth.{increments}
 use Rattle.criteria_model.specs.Pairs.{IsFit, turned}
 use Rattle.criteria_model.specs.Answers.{Ranks, MeetsAll, IsRanked, gain}
 use Rattle.criteria_model.proofs.GainLemmas.{length-gain}
-use Rattle.criteria_model.proofs.RowLemmas.{length-times}
+use Rattle.row_laws.proofs.RowLemmas.{length-times}
 use Rattle.farkas_check.specs.declared.cites.Cite.{Cite}
 use Rattle.farkas_check.specs.declared.combination.Combination.{Combination}
 use Rattle.farkas_check.specs.Cited.{no_cite}

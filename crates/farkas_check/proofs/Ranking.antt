@@ -1,6 +1,6 @@
 -- A proved verdict is the ranking of the pair: by values that meet the answers, each cited term of the total has the
 -- sign of its weight, so the total has the sign that the verdict asks for, and so has the verdict's own gain.
-use Rattle.std.proofs.Common.{◌≡◌, ◌⊎◌, ℕ, zero, suc, ◌-◌, ◌≤◌, List, [], ◌∷◌, ◌++◌, length, take, get_or, All, Any, Option, Some, ℤ, pos, negsuc, ◌+ℤ◌, ◌*ℤ◌, ◌<ℤ◌, ◌≤ℤ◌, refl, sym, ap, subst, ◌∙◌, inl, inr, arith}
+use Rattle.std.proofs.Common.{◌≡◌, ℕ, zero, suc, ◌-◌, ◌≤◌, List, [], ◌∷◌, ◌++◌, length, take, get_or, All, Any, Option, Some, ℤ, pos, negsuc, ◌+ℤ◌, ◌*ℤ◌, ◌<ℤ◌, ◌≤ℤ◌, refl, sym, ap, subst, ◌∙◌, inl, inr, arith}
 use Rattle.std.specs.Option.{option_map_or}
 use Rattle.std.proofs.Math.Seq.{take-append_seam}
 use Rattle.std.proofs.Math.IntN.{*ℤ-zero, zero-*ℤ, *ℤ_comm}
@@ -11,43 +11,18 @@ use Rattle.criteria_model.specs.declared.pairs.Pair.{Pair}
 use Rattle.criteria_model.specs.declared.pairs.Answer.{Answer}
 use Rattle.criteria_model.specs.declared.pairs.Side.{Side}
 use Rattle.criteria_model.specs.declared.pairs.Side.TheVariants.{Left, Right, Equal}
-use Rattle.criteria_model.specs.Rows.{dot, plus, times}
-use Rattle.criteria_model.specs.Worth.{has, IsValueVector}
-use Rattle.criteria_model.specs.Answers.{Ranks, Meets, gain}
+use Rattle.row_laws.specs.Rows.{dot, plus, times}
+use Rattle.criteria_model.specs.Worth.{IsValueVector}
+use Rattle.criteria_model.specs.Answers.{Meets, gain}
 use Rattle.farkas_check.specs.declared.cites.Cite.{Cite}
 use Rattle.farkas_check.specs.declared.combination.Combination.{Combination}
 use Rattle.farkas_check.specs.Sums.{cited_side, cited_gain, total}
 use Rattle.farkas_check.specs.Proof.{MayWeigh, IsStrict, HasStrict, Proves}
 use Rattle.farkas_check.specs.Laws.{ProvedIsRanked}
-use Rattle.criteria_model.proofs.Integers.{mul_nonneg, mul_positive, positive_from_multiple, zero_from_multiple}
-use Rattle.criteria_model.proofs.RowLemmas.{dot-plus, dot-minus, dot-times}
-
--- what a ranking says of the worth of the gain
-abbrev Favours : Side → ℤ → Type 0
-Favours Left z = pos 1 ≤ℤ z
-Favours Right z = pos 1 ≤ℤ z
-Favours Equal z = z ≡ pos 0
-
-Favours-from_ranks : (levels : List ℕ) (v : List ℤ) (pair : Pair) (side : Side) → Ranks levels v pair side → Favours side (dot v (gain levels pair side))
-Favours-from_ranks levels v pair Left h = omega (arith, ints, h, dot-minus v (has levels pair.left) (has levels pair.right))
-Favours-from_ranks levels v pair Right h = omega (arith, ints, h, dot-minus v (has levels pair.right) (has levels pair.left))
-Favours-from_ranks levels v pair Equal h = omega (arith, ints, h, dot-minus v (has levels pair.left) (has levels pair.right))
-
-ranks_from_Favours : (levels : List ℕ) (v : List ℤ) (pair : Pair) (side : Side) → Favours side (dot v (gain levels pair side)) → Ranks levels v pair side
-ranks_from_Favours levels v pair Left h = omega (arith, ints, h, dot-minus v (has levels pair.left) (has levels pair.right))
-ranks_from_Favours levels v pair Right h = omega (arith, ints, h, dot-minus v (has levels pair.right) (has levels pair.left))
-ranks_from_Favours levels v pair Equal h = omega (arith, ints, h, dot-minus v (has levels pair.left) (has levels pair.right))
-
--- ---- some element
-Any-cases : {X : Type 0} (P : X → Type 0) (x : X) (xs : List X) → Any P (x ∷ xs) → P x ⊎ Any P xs
-Any-cases P x xs (zero, y, within, at, h) = inl (subst P (sym at) h)
-Any-cases P x xs (suc k, y, within, at, h) = inr (k, y, omega arith, at, h)
-
-Any-here : {X : Type 0} (P : X → Type 0) (x : X) (xs : List X) → P x → Any P (x ∷ xs)
-Any-here P x xs h = (0, x, omega arith, refl, h)
-
-Any-there : {X : Type 0} (P : X → Type 0) (x : X) (xs : List X) → Any P xs → Any P (x ∷ xs)
-Any-there P x xs h = (suc h.0, h.1, omega (arith, h.2), h.3, h.4)
+use Rattle.row_laws.proofs.Signs.{mul_nonneg, mul_positive, positive_from_multiple, zero_from_multiple}
+use Rattle.row_laws.proofs.ListLemmas.{Any-cases, Any-here, Any-there}
+use Rattle.row_laws.proofs.RowLemmas.{dot-plus, dot-times}
+use Rattle.criteria_model.proofs.GainLemmas.{Favours, ranks_favours, favours_ranks}
 
 -- ---- a weight times what its answer gains
 term_nonneg : (side : Side) (weight z : ℤ) → MayWeigh side weight → Favours side z → pos 0 ≤ℤ (weight *ℤ z)
@@ -80,7 +55,7 @@ Favours-from_answer : (levels : List ℕ) (v : List ℤ) (found : Option Answer)
     → Favours (option_map_or (λ a. a.side) found Equal) (dot v (option_map_or (λ a. gain levels a.pair a.side) found []))
 Favours-from_answer levels v found answer is meets =
     subst (λ (o : Option Answer). Favours (option_map_or (λ a. a.side) o Equal) (dot v (option_map_or (λ a. gain levels a.pair a.side) o [])))
-    (sym is) (Favours-from_ranks levels v answer.pair answer.side meets)
+    (sym is) (ranks_favours levels v answer.pair answer.side meets)
 
 Favours-from_cite : (levels : List ℕ) (answers : List Answer) (v : List ℤ) (cite : Cite) → All (Meets levels v) answers
     → (1 ≤ cite.answer) × (cite.answer ≤ length answers) → Favours (cited_side answers cite) (dot v (cited_gain levels answers cite))
@@ -211,4 +186,4 @@ module _ (levels : List ℕ) (answers : List Answer) (c : Combination) (v : List
 
 pub proved_is_ranked_lem : ProvedIsRanked
 proved_is_ranked_lem levels answers more c pair side proof v meets =
-    ranks_from_Favours levels v pair side (favoured levels answers c v meets.vector (All-front (Meets levels v) answers more meets.each) pair side proof)
+    favours_ranks levels v pair side (favoured levels answers c v meets.vector (All-front (Meets levels v) answers more meets.each) pair side proof)

@@ -1,79 +1,17 @@
--- Adding a multiple of a row, one place after another, and how large the sums grow.
-use Rattle.std.proofs.Common.{◌≡◌, ℕ, zero, suc, ◌+◌, ◌-◌, ◌*◌, ◌^◌, ◌<◌, ◌≤◌, List, [], ◌∷◌, ◌++◌, length, take, drop, replicate, drop-drop, get_or, set, All, ℤ, pos, ◌+ℤ◌, ◌*ℤ◌, unsigned_abs, Some, slice_get, refl, ap, ap₂, sym, ◌∙◌, arith}
+-- The sums of the first cites and of the first criteria, and how large they grow.
+use Rattle.std.proofs.Common.{◌≡◌, ℕ, ◌+◌, ◌-◌, ◌*◌, ◌^◌, ◌<◌, ◌≤◌, List, [], ◌++◌, length, take, drop, drop-drop, get_or, All, ℤ, ◌*ℤ◌, unsigned_abs, Some, slice_get, refl, ap, ap₂, sym, ◌∙◌, arith}
 use Rattle.std.specs.Option.{option_map_or}
-use Rattle.std.proofs.lemmas.Int.{ints, unsigned_abs-mul}
-use Rattle.std.proofs.Math.Nat.{mul-le-mul}
-use Rattle.std.proofs.lemmas.List.Elements.{All-cons, All-head, All-tail, All-nil, All-weaker, All-take, All-drop}
+use Rattle.std.proofs.lemmas.List.Elements.{All-take, All-drop}
 use Rattle.std.proofs.lemmas.List.Sums.{fold_more, sum_by_more, sum_by_more_le}
 use Rattle.std.proofs.lemmas.List.{length-take, length-drop, map-append}
 use Rattle.criteria_model.specs.declared.pairs.Answer.{Answer}
-use Rattle.criteria_model.specs.Rows.{plus, minus, times}
+use Rattle.row_laws.specs.Rows.{plus, minus, times}
 use Rattle.criteria_model.specs.Worth.{increments, has, has_on}
 use Rattle.criteria_model.specs.Answers.{gain}
-use Rattle.criteria_model.proofs.RowLemmas.{length-plus, length-minus, length-times}
+use Rattle.row_laws.proofs.RowLemmas.{length-plus, length-minus, length-times, drop-plus, plus-append_after, plus-times_small}
 use Rattle.criteria_model.proofs.LevelLemmas.{length-has_on, length-minus-has, minus-has-take_more, has_on-by}
 use Rattle.farkas_check.specs.declared.cites.Cite.{Cite}
 use Rattle.farkas_check.specs.Sums.{cited_gain, total}
-use Rattle.criteria_model.proofs.Integers.{mul-zero, unsigned_abs-add}
-
-pub plus-nil : (a : List ℤ) → plus a [] ≡ a
-plus-nil [] = refl
-plus-nil (x ∷ a) = refl
-
--- a row leaves the places behind it as they were
-pub plus-read : (a r : List ℤ) (i : ℕ) → length r ≤ i → i < length a → get_or (plus a r) i (pos 0) ≡ get_or a i (pos 0)
-plus-read [] r i h k = absurd (omega (arith, k))
-plus-read (x ∷ a) [] i h k = refl
-plus-read (x ∷ a) (y ∷ r) zero h k = absurd (omega (arith, h))
-plus-read (x ∷ a) (y ∷ r) (suc i) h k = plus-read a r i (omega arith) (omega arith)
-
--- one place more of a row changes one sum more
-pub plus-push : (a r : List ℤ) (y : ℤ) → length r < length a → plus a (r ++ y ∷ []) ≡ set (plus a r) (length r) (get_or (plus a r) (length r) (pos 0) +ℤ y)
-plus-push [] r y h = absurd (omega (arith, h))
-plus-push (x ∷ a) [] y h = ap (λ rest. (x +ℤ y) ∷ rest) (plus-nil a)
-plus-push (x ∷ a) (z ∷ r) y h = ap (λ rest. (x +ℤ z) ∷ rest) (plus-push a r y (omega arith))
-
-pub plus-zeros : (a : List ℤ) (n : ℕ) → n ≤ length a → plus a (replicate n (pos 0)) ≡ a
-plus-zeros a zero h = plus-nil a
-plus-zeros [] (suc n) h = absurd (omega (arith, h))
-plus-zeros (x ∷ a) (suc n) h =
-    let same : x +ℤ pos 0 ≡ x = omega (arith, ints) in
-    ap₂ (λ y rest. y ∷ rest) same (plus-zeros a n (omega arith))
-
-pub times-zeros : (k : ℤ) (n : ℕ) → times k (replicate n (pos 0)) ≡ replicate n (pos 0)
-times-zeros k zero = refl
-times-zeros k (suc n) = ap₂ (λ y rest. y ∷ rest) (mul-zero k) (times-zeros k n)
-
-plus-split : (a s : List ℤ) → length s ≤ length a → plus a s ≡ plus (take (length s) a) s ++ drop (length s) a
-plus-split [] [] h = refl
-plus-split [] (y ∷ s) h = absurd (omega (arith, h))
-plus-split (x ∷ a) [] h = refl
-plus-split (x ∷ a) (y ∷ s) h = ap (λ rest. (x +ℤ y) ∷ rest) (plus-split a s (omega arith))
-
--- a row r and then a row s behind it: s changes the places from the length of r on
-pub plus-behind : (a r s : List ℤ) → length r + length s ≤ length a
-    → plus a (r ++ s) ≡ take (length r) (plus a r) ++ (plus (take (length s) (drop (length r) (plus a r))) s ++ drop (length r + length s) (plus a r))
-plus-behind a [] s h =
-    let none : 0 + length s ≡ length s = omega arith in
-    rw (plus-nil a, none) (plus-split a s (omega (arith, h)))
-plus-behind [] (z ∷ r) s h = absurd (omega (arith, h))
-plus-behind (x ∷ a) (z ∷ r) s h =
-    let more : suc (length r) + length s ≡ suc (length r + length s) = omega arith in
-    rw more (ap (λ rest. (x +ℤ z) ∷ rest) (plus-behind a r s (omega arith)))
-
--- a multiple of a row of -1, 0 and 1 makes sums larger by its factor at most
-pub plus-times_small : (a : List ℤ) (w : ℤ) (row : List ℤ) (b n : ℕ) → All (λ x. unsigned_abs x ≤ b) a → unsigned_abs w ≤ n → All (λ x. unsigned_abs x ≤ 1) row → length row ≤ length a
-    → All (λ x. unsigned_abs x ≤ b + n) (plus a (times w row))
-plus-times_small [] w [] b n small weight unit len = All-nil (λ x. unsigned_abs x ≤ b + n)
-plus-times_small [] w (y ∷ row) b n small weight unit len = absurd (omega (arith, len))
-plus-times_small (x ∷ a) w [] b n small weight unit len = All-weaker (λ x. unsigned_abs x ≤ b) (λ x. unsigned_abs x ≤ b + n) (λ x h. omega arith) (x ∷ a) small
-plus-times_small (x ∷ a) w (y ∷ row) b n small weight unit len =
-    let x_small = All-head (λ x. unsigned_abs x ≤ b) x a small in
-    let y_small = All-head (λ x. unsigned_abs x ≤ 1) y row unit in
-    let here : unsigned_abs (x +ℤ (w *ℤ y)) ≤ b + n =
-    omega (arith, unsigned_abs-add x (w *ℤ y), unsigned_abs-mul w y, mul-le-mul weight y_small, x_small) in
-    All-cons (λ x. unsigned_abs x ≤ b + n) (x +ℤ (w *ℤ y)) (plus a (times w row)) here
-    (plus-times_small a w row b n (All-tail (λ x. unsigned_abs x ≤ b) x a small) weight (All-tail (λ x. unsigned_abs x ≤ 1) y row unit) (omega arith))
 
 -- ---- the totals of the first cites
 -- the sums are the totals of the first i cites, and no larger than those can be
@@ -108,11 +46,6 @@ AreTotals-more levels answers own cites i sums d totals within weight unit len =
 pub record AreLeads (levels winner loser : List ℕ) (weight : ℤ) (before : List ℤ) (at place : ℕ) (sums : List ℤ) : Type 0 where
   pub at_increments : at ≡ increments (take place levels)
   pub sum : sums ≡ plus before (times weight (minus (has (take place levels) (take place winner)) (has (take place levels) (take place loser))))
-
-drop-plus : (a r : List ℤ) → length r ≤ length a → drop (length r) (plus a r) ≡ drop (length r) a
-drop-plus a [] h = ap (drop 0) (plus-nil a)
-drop-plus [] (y ∷ r) h = absurd (omega (arith, h))
-drop-plus (x ∷ a) (y ∷ r) h = drop-plus a r (omega arith)
 
 module _ (levels winner loser : List ℕ) (weight : ℤ) (before : List ℤ) (at place : ℕ) (sums : List ℤ) (leads : AreLeads levels winner loser weight before at place sums) (len : length before ≡ increments levels)
     (winner_len : length winner ≡ length levels) (loser_len : length loser ≡ length levels) (within : place < length levels) where
@@ -168,7 +101,7 @@ module _ (levels winner loser : List ℕ) (weight : ℤ) (before : List ℤ) (at
     sum =
         let both : times weight (minus (has (take (place + 1) levels) (take (place + 1) winner)) (has (take (place + 1) levels) (take (place + 1) loser))) ≡ front ++ next =
         rw (minus-has-take_more levels winner loser place within winner_len loser_len) (map-append (λ x. weight *ℤ x) _ _) in
-        let split = plus-behind before front next (omega (arith, length-front, length-next, next_within)) in
+        let split = plus-append_after before front next (omega (arith, length-front, length-next, next_within)) in
         let parts : plus before (front ++ next) ≡ take at sums ++ (plus (take (get_or levels place 0 - 1) (drop at sums)) next ++ drop (at + (get_or levels place 0 - 1)) sums) =
         rw (← leads.sum, length-front, length-next) at split in
         let added : part ≡ plus (take k (drop at sums)) next = part_is ∙ ap (plus (take k (drop at sums))) (next_is k k_is) in

@@ -5,7 +5,7 @@ use Rattle.criteria_model.specs.declared.pairs.Pair.{Pair}
 use Rattle.criteria_model.specs.declared.pairs.Answer.{Answer}
 use Rattle.criteria_model.specs.declared.pairs.Side.{Side}
 use Rattle.criteria_model.specs.declared.pairs.Side.TheVariants.{Left, Right, Equal}
-use Rattle.criteria_model.specs.Rows.{times}
+use Rattle.row_laws.specs.Rows.{times}
 use Rattle.criteria_model.specs.Worth.{increments}
 use Rattle.criteria_model.specs.Answers.{gain}
 use Rattle.farkas_check.specs.declared.cites.Cite.{Cite}

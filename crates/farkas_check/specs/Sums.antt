@@ -4,7 +4,7 @@ use Rattle.std.specs.Option.{option_map_or}
 use Rattle.criteria_model.specs.declared.pairs.Answer.{Answer}
 use Rattle.criteria_model.specs.declared.pairs.Side.{Side}
 use Rattle.criteria_model.specs.declared.pairs.Side.TheVariants.{Equal}
-use Rattle.criteria_model.specs.Rows.{plus, times}
+use Rattle.row_laws.specs.Rows.{plus, times}
 use Rattle.criteria_model.specs.Answers.{gain}
 use Rattle.farkas_check.specs.declared.cites.Cite.{Cite}
 

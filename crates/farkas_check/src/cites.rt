@@ -2,7 +2,11 @@ ghost use Rattle.std.specs.Prelude.{◌≡◌, ◌↔◌, ◌-◌, ◌≤◌, So
 ghost use Rattle.std.specs.List.Sorted.{IsStrictlyIncreasing};
 ghost use Rattle.farkas_check.specs.Cited.{IsCite, AreCites};
 
+use criteria_model::CERTIFICATE_BOUND;
 use std::marker::Model;
+
+/// The most answers that a combination cites.
+pub const MAX_CITES: usize = 24;
 
 /// An answer, by its number, and the weight that it has in a combination.
 #[derive(Clone, Copy, PartialEq, Eq, Debug)]
@@ -11,31 +15,33 @@ pub struct Cite {
     pub weight: i128,
 }
 
-/// At most 24 cites: answers from 1 on, strictly ascending, each with a weight that isn't 0 and is below 2^96 in size.
-// The cells behind the cites hold the empty cite, so that equal lists are equal values.
+/// At most [`MAX_CITES`] cites: answers from 1 on, strictly ascending, each with a weight that isn't 0
+/// and is below [`CERTIFICATE_BOUND`] in size.
+// The cells after the cites hold the empty cite, so that equal lists are equal values.
 #[derive(Clone, Copy, PartialEq, Eq, Debug)]
 pub struct Cites {
-    items: [Cite; 24],
+    items: [Cite; MAX_CITES],
     len: u8,
 }
 
 impl Model for Cites {
     ghost use Rattle.std.specs.Prelude.{List, length, take};
+    ghost use Rattle.farkas_check.specs.declared.cites.TheConstants.{MAX_CITES};
     ghost use Rattle.farkas_check.specs.declared.cites.Cite.{Cite};
-    ghost use Rattle.criteria_model.specs.Lists.{IsPadded, padded, padded-take, length-padded};
+    ghost use Rattle.row_laws.specs.Padded.{IsPadded, padded, padded-take, length-padded};
     ghost use Rattle.farkas_check.specs.Cited.{AreCites, no_cite};
 
     ghost Value = { List Cite };
 
     ghost view = { λ t. take t.len t.items };
 
-    ghost invariant = { λ t. IsPadded no_cite t.len t.items × AreCites (take t.len t.items) };
+    ghost invariant = { λ t. IsPadded MAX_CITES no_cite t.len t.items × AreCites (take t.len t.items) };
 
-    ghost inverse = { λ cites. record { items = padded no_cite cites; len = length cites } };
+    ghost inverse = { λ cites. record { items = padded MAX_CITES no_cite cites; len = length cites } };
 
     ghost inverse_ok = { λ t h i. record {
-      items = padded-take no_cite t.len t.items h.0 i;
-      len = length-padded no_cite t.len t.items h.0 i;
+      items = padded-take MAX_CITES no_cite t.len t.items h.0 i;
+      len = length-padded MAX_CITES no_cite t.len t.items h.0 i;
     } };
 }
 
@@ -45,8 +51,9 @@ const NO_CITE: Cite = Cite {
 };
 
 impl Cites {
-    /// The list of these cites, or `None` where they are more than 24, one has the answer 0, the weight 0 or a weight
-    /// of 2^96 or more in size, or their answers don't strictly ascend.
+    /// The list of these cites, or `None` where they are more than [`MAX_CITES`], where one has the answer
+    /// 0, the weight 0 or a weight of [`CERTIFICATE_BOUND`] or more in size, or where their answers don't
+    /// strictly ascend.
     pub fn of(items: &[Cite]) -> Option<Cites>
         ensures known { IsSome result ↔ AreCites items.now }
         ensures value { IfSome result (λ cites. cites ≡ items.now) }
@@ -55,7 +62,7 @@ impl Cites {
             return None;
         }
         let count = items.len();
-        let mut cells = [NO_CITE; 24];
+        let mut cells = [NO_CITE; MAX_CITES];
         cells[..count].copy_from_slice(items);
         Some(Cites {
             items: cells,
@@ -94,13 +101,13 @@ impl Cites {
 fn are_cites(items: &[Cite]) -> bool
     ensures { IsTrue result ↔ AreCites items.now }
 {
-    items.len() <= 24 && items.iter().all(is_cite) && is_ascending(items)
+    items.len() <= MAX_CITES && items.iter().all(is_cite) && is_ascending(items)
 }
 
 fn is_cite(cite: &Cite) -> bool
     ensures { IsTrue result ↔ IsCite cite.now }
 {
-    cite.answer >= 1 && cite.weight != 0 && cite.weight.unsigned_abs() < 1 << 96
+    cite.answer >= 1 && cite.weight != 0 && cite.weight.unsigned_abs() < CERTIFICATE_BOUND
 }
 
 fn is_ascending(items: &[Cite]) -> bool

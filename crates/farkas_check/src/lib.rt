@@ -10,7 +10,7 @@
 //! and go into it only where these differ.
 #![tactic(auto)]
 
-pub use cites::{Cite, Cites};
+pub use cites::{Cite, Cites, MAX_CITES};
 pub use combination::Combination;
 pub use flaws::Flaw;
 pub use proof::{flaw, proves};

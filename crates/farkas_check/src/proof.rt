@@ -9,7 +9,7 @@ use crate::flaws::Flaw;
 use crate::parts::{has_cited, has_own_weights, has_weights, is_strict_enough};
 use crate::sums::has_sums;
 use answer_rows::Answers;
-use criteria_model::{Model, Pair, Side};
+use criteria_model::{CERTIFICATE_BOUND, Model, Pair, Side};
 
 /// The first part that the combination lacks to prove the verdict on the pair, each part tested over the whole
 /// combination; `None` where it proves the verdict.
@@ -21,7 +21,7 @@ pub fn flaw(
     verdict: Side,
 ) -> Option<Flaw>
     requires len { length combination.now.increments ≡ increments model.now.levels }
-    requires scale { unsigned_abs combination.now.scale < 2 ^ 96 }
+    requires scale { unsigned_abs combination.now.scale < CERTIFICATE_BOUND }
     requires answers_fit { All (λ answer. IsFit model.now.levels answer.pair) answers.now.answers }
     requires pair_fits { IsFit model.now.levels pair.now }
     ensures { IsFirstFlaw model.now.levels answers.now.answers combination.now pair.now verdict result }
@@ -58,7 +58,7 @@ pub fn proves(
     verdict: Side,
 ) -> bool
     requires len { length combination.now.increments ≡ increments model.now.levels }
-    requires scale { unsigned_abs combination.now.scale < 2 ^ 96 }
+    requires scale { unsigned_abs combination.now.scale < CERTIFICATE_BOUND }
     requires answers_fit { All (λ answer. IsFit model.now.levels answer.pair) answers.now.answers }
     requires pair_fits { IsFit model.now.levels pair.now }
     ensures { IsTrue result ↔ Proves model.now.levels answers.now.answers combination.now pair.now verdict }

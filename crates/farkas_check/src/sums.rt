@@ -1,6 +1,6 @@
 //! What a combination sums to at each increment.
 ghost use Rattle.std.specs.Prelude.{◌≡◌, ◌↔◌, ◌+◌, ◌^◌, ◌<◌, ◌≤◌, length, All, IsTrue, unsigned_abs, ◌-ℤ◌, ◌*ℤ◌};
-ghost use Rattle.criteria_model.specs.Rows.{plus, minus, times};
+ghost use Rattle.row_laws.specs.Rows.{plus, minus, times};
 ghost use Rattle.criteria_model.specs.Worth.{increments, has, has_on, lies_above};
 ghost use Rattle.criteria_model.specs.Criteria.{IsModel};
 ghost use Rattle.criteria_model.specs.Pairs.{IsFit};
@@ -12,7 +12,7 @@ ghost use Rattle.farkas_check.specs.Proof.{HasCited, HasSums, IsThere};
 use crate::cites::Cite;
 use crate::combination::Combination;
 use answer_rows::{Answer, Answers};
-use criteria_model::{Model, Pair, Side};
+use criteria_model::{CERTIFICATE_BOUND, MAX_INCREMENTS, Model, Pair, Side};
 
 /// Whether scale times the verdict's gain is the total, at each increment.
 pub fn has_sums(
@@ -23,14 +23,14 @@ pub fn has_sums(
     verdict: Side,
 ) -> bool
     requires len { length combination.now.increments ≡ increments model.now.levels }
-    requires scale { unsigned_abs combination.now.scale < 2 ^ 96 }
+    requires scale { unsigned_abs combination.now.scale < CERTIFICATE_BOUND }
     requires answers_fit { All (λ answer. IsFit model.now.levels answer.pair) answers.now.answers }
     requires pair_fits { IsFit model.now.levels pair.now }
     requires cited { HasCited answers.now.answers combination.now }
     ensures { IsTrue result ↔ HasSums model.now.levels answers.now.answers combination.now pair.now verdict }
 {
     let own = combination.increments.as_slice();
-    let mut cells = [0; 24];
+    let mut cells = [0; MAX_INCREMENTS];
     let sums = &mut cells[..usize::from(model.increments())];
     sums.copy_from_slice(own);
     add_cites(
@@ -48,7 +48,7 @@ pub fn has_sums(
 fn add_cites(sums: &mut [i128], model: &Model, answers: &[Answer], cites: &[Cite])
     requires model { IsModel model.now }
     requires len { length sums.old ≡ increments model.now.levels }
-    requires sums { All (λ x. unsigned_abs x < 2 ^ 96) sums.old }
+    requires sums { All (λ x. unsigned_abs x < CERTIFICATE_BOUND) sums.old }
     requires cites { AreCites cites.now }
     requires there { All (IsThere answers.now) cites.now }
     requires answers_fit { All (λ answer. IsFit model.now.levels answer.pair) answers.now }
@@ -65,7 +65,7 @@ fn add_answer(sums: &mut [i128], model: &Model, answer: &Answer, weight: i128)
     requires len { length sums.old ≡ increments model.now.levels }
     requires fits { IsFit model.now.levels answer.now.pair }
     requires sums { All (λ x. unsigned_abs x < 2 ^ 120) sums.old }
-    requires weight { unsigned_abs weight < 2 ^ 96 }
+    requires weight { unsigned_abs weight < CERTIFICATE_BOUND }
     ensures { sums.new ≡ plus sums.old (times weight (gain model.now.levels answer.now.pair answer.now.side)) }
 {
     let left = answer.pair.left.as_slice();
@@ -82,7 +82,7 @@ fn add_lead(sums: &mut [i128], model: &Model, winner: &[u8], loser: &[u8], weigh
     requires winner { length winner.now ≡ length model.now.levels }
     requires loser { length loser.now ≡ length model.now.levels }
     requires sums { All (λ x. unsigned_abs x < 2 ^ 120) sums.old }
-    requires weight { unsigned_abs weight < 2 ^ 96 }
+    requires weight { unsigned_abs weight < CERTIFICATE_BOUND }
     ensures { sums.new ≡ plus sums.old (times weight (minus (has model.now.levels winner.now) (has model.now.levels loser.now))) }
 {
     let mut at = 0;
@@ -98,7 +98,7 @@ fn add_lead(sums: &mut [i128], model: &Model, winner: &[u8], loser: &[u8], weigh
 /// The same on the increments of one criterion, from its lowest on.
 fn add_on_criterion(sums: &mut [i128], winner: u8, loser: u8, weight: i128)
     requires sums { All (λ x. unsigned_abs x < 2 ^ 120) sums.old }
-    requires weight { unsigned_abs weight < 2 ^ 96 }
+    requires weight { unsigned_abs weight < CERTIFICATE_BOUND }
     ensures { sums.new
         ≡ plus sums.old (times weight (minus (has_on (length sums.old + 1) winner) (has_on (length sums.old + 1) loser))) }
 {
@@ -112,9 +112,9 @@ fn add_on_criterion(sums: &mut [i128], winner: u8, loser: u8, weight: i128)
 
 /// What the weight adds at one increment of a criterion.
 fn change_of(weight: i128, winner: u8, loser: u8, increment: usize) -> i128
-    requires { unsigned_abs weight < 2 ^ 96 }
+    requires { unsigned_abs weight < CERTIFICATE_BOUND }
     ensures value { result ≡ weight *ℤ (lies_above winner increment -ℤ lies_above loser increment) }
-    ensures size { unsigned_abs result < 2 ^ 96 }
+    ensures size { unsigned_abs result < CERTIFICATE_BOUND }
 {
     match (
         increment < usize::from(winner),
@@ -129,7 +129,7 @@ fn change_of(weight: i128, winner: u8, loser: u8, increment: usize) -> i128
 /// Whether the sums are scale times the row, place by place.
 fn is_multiple(scale: i128, row: &[i8], sums: &[i128]) -> bool
     requires len { length row.now ≡ length sums.now }
-    requires scale { unsigned_abs scale < 2 ^ 96 }
+    requires scale { unsigned_abs scale < CERTIFICATE_BOUND }
     requires row { All (λ x. unsigned_abs x ≤ 1) row.now }
     ensures { IsTrue result ↔ (times scale row.now ≡ sums.now) }
 {

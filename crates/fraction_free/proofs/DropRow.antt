@@ -8,7 +8,7 @@ use Rattle.std.specs.List.{SwappedAt, range_with_len, swap_remove}
 use Rattle.minors.specs.Combination.{IsScale}
 use Rattle.minors.specs.Combination.{dot as dot_of}
 use Rattle.minors.proofs.Ring.{cancel, mul-add, mul_swap, mul_zero, zero_mul, mul-sub, sums}
-use Rattle.criteria_model.specs.Rows.{dot}
+use Rattle.row_laws.specs.Rows.{dot}
 use Rattle.fraction_free.specs.declared.loaded.LoadedRow.{LoadedRow}
 use Rattle.fraction_free.specs.Arrangement.{IsArrangement, Arranged}
 use Rattle.fraction_free.specs.Dictionary.{IsLoadable, HasSlacks, loaded_at, no_row, slack_of, vector_of}

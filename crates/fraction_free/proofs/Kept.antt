@@ -6,7 +6,7 @@ use Rattle.std.specs.List.{All}
 use Rattle.wide_step.specs.Quotient.{HasQuotient}
 use Rattle.minors.specs.Minor.{entry, minor, HasSmallEntries}
 use Rattle.minors.proofs.Laws.{factor_is_bounded, minor_is_bounded, scale_is_bounded, bound_is_small, pivot_divides}
-use Rattle.criteria_model.specs.Rows.{dot}
+use Rattle.row_laws.specs.Rows.{dot}
 use Rattle.fraction_free.specs.declared.loaded.LoadedRow.{LoadedRow}
 use Rattle.fraction_free.specs.Arrangement.{IsArrangement, Arranged}
 use Rattle.fraction_free.specs.Dictionary.{IsDictionary, HasSlacks, Satisfies, most_size}

@@ -12,7 +12,7 @@ use Rattle.minors.specs.Combination.{IsCombination, IsScale, IsLeaving, column_o
 use Rattle.minors.specs.Combination.{dot as dot_of}
 use Rattle.minors.proofs.Laws.{scale_after_pivot, pivot_keeps_combination, leaving_row_is_combination}
 use Rattle.minors.proofs.Ring.{mul_zero, sums}
-use Rattle.criteria_model.specs.Rows.{dot}
+use Rattle.row_laws.specs.Rows.{dot}
 use Rattle.fraction_free.specs.declared.loaded.LoadedRow.{LoadedRow}
 use Rattle.fraction_free.specs.Arrangement.{IsArrangement, Arranged}
 use Rattle.fraction_free.specs.Changes.{with_sign, IsOtherLine, IsPivotLine, IsPivoted}

@@ -10,8 +10,8 @@ use Rattle.minors.specs.Combination.{dot as dot_of}
 use Rattle.minors.proofs.Total.{dot_is_total, total_single}
 use Rattle.minors.proofs.Laws.{combination_at_point}
 use Rattle.minors.proofs.Ring.{sums, mul-add, add-mul, neg-mul, one_mul}
-use Rattle.criteria_model.specs.Rows.{dot}
-use Rattle.criteria_model.proofs.RowLemmas.{dot-append}
+use Rattle.row_laws.specs.Rows.{dot}
+use Rattle.row_laws.proofs.RowLemmas.{dot-append}
 use Rattle.fraction_free.specs.declared.loaded.LoadedRow.{LoadedRow}
 use Rattle.fraction_free.specs.Arrangement.{IsArrangement}
 use Rattle.fraction_free.specs.Dictionary.{IsLoadable, HasSlacks, loaded_at, slack_of, vector_of}

@@ -7,7 +7,7 @@ use Rattle.std.proofs.lemmas.Bool.{cond-true, cond-false, cases_Bool, ltb-true, 
 use Rattle.std.proofs.lemmas.List.{length-map, get_or_append_left, get_or-append_right, get_or-map, get_or-set_same, get_or-set_other}
 use Rattle.std.specs.Cmp.Derive.{both_true}
 use Rattle.minors.proofs.Ring.{sums, mul_zero, zero_mul}
-use Rattle.criteria_model.specs.Rows.{dot}
+use Rattle.row_laws.specs.Rows.{dot}
 use Rattle.least_index.specs.Dictionary.{RationalDictionary, sum_below, term, right_side}
 use Rattle.least_index.specs.Dictionary as rational
 use Rattle.least_index.specs.Rule.{first, is_infeasible, helps, leaving, entering, is_end, next, pivots_left, Covers}

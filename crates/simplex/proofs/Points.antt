@@ -10,7 +10,7 @@ use Rattle.std.proofs.lemmas.List.FromFn.{get_or-map-range_with_len, length-map-
 use Rattle.std.proofs.lemmas.List.Elements.{All-from_get_or}
 use Rattle.minors.proofs.Ring.{sums, mul-add, mul_assoc, mul_swap, mul_zero, zero_mul, one_mul}
 use Rattle.criteria_model.specs.Lists.{IsVector}
-use Rattle.criteria_model.specs.Rows.{dot, times}
+use Rattle.row_laws.specs.Rows.{dot, times}
 use Rattle.fraction_free.specs.declared.loaded.LoadedRow.{LoadedRow}
 use Rattle.fraction_free.specs.Dictionary.{DictionaryView, IsDictionary, Satisfies, HasSlacks, vector_of, slack_of, loaded_at, constant_in}
 use Rattle.least_index.proofs.Signs.{mul_neg}

@@ -3,7 +3,7 @@ use Rattle.std.proofs.Common.{◌≡◌, ◌≢◌, ℕ, zero, suc, ◌+◌, ◌
 use Rattle.std.specs.Prelude.{nat_lt, ◌==◌}
 use Rattle.std.proofs.lemmas.Bool.{cond-true, cond-false, cases_Bool, ltb-true, ltb-false, lt-ltb, le-ltb, eqb-true, eqb-false, eq-eqb, true≢false, false≢true, false_from_ne_true}
 use Rattle.minors.proofs.Ring.{sums, mul_zero, zero_mul}
-use Rattle.criteria_model.specs.Rows.{dot}
+use Rattle.row_laws.specs.Rows.{dot}
 use Rattle.least_index.specs.Dictionary.{sum_below}
 use Rattle.least_index.specs.Rule.{first}
 use Rattle.least_index.proofs.First.{first-le, first-below, first-passes, first-is}

@@ -13,7 +13,7 @@ use Rattle.std.proofs.lemmas.List.Elements.{All-from_get_or}
 use borrow.Author.Differences.{product_is}
 use Rattle.minors.proofs.Ring.{mul-neg}
 use Rattle.criteria_model.specs.Lists.{IsVector}
-use Rattle.criteria_model.specs.Rows.{times}
+use Rattle.row_laws.specs.Rows.{times}
 use Rattle.least_index.proofs.Signs.{mul_nonpos, mul_nonneg, nonneg_of_pos}
 use Rattle.simplex.specs.Rows.{IsCoprime}
 use Rattle.simplex.proofs.Sizes.{kept, fits}

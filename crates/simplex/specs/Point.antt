@@ -1,6 +1,6 @@
 -- The vector of a dictionary where its nonbasic variables are 0.
 use Rattle.std.specs.Prelude.{ℕ, ◌+◌, ◌-◌, ◌≡◌, ◌≢◌, ◌<◌, ◌≤◌, List, length, slice_index, slice_index_or, ℤ, pos, ◌+ℤ◌, ◌≤ℤ◌}
-use Rattle.criteria_model.specs.Rows.{times}
+use Rattle.row_laws.specs.Rows.{times}
 use Rattle.fraction_free.specs.Dictionary.{DictionaryView, constant_in}
 
 -- each increment, times the scale: the scale, and the constant of its variable if that is basic

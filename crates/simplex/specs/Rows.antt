@@ -1,7 +1,7 @@
 -- What the loaded rows ask of a vector.
 use Rattle.std.specs.Prelude.{ℕ, ◌≡◌, ◌<◌, List, length, All, ℤ, pos, ◌≤ℤ◌, unsigned_abs}
 use Rattle.std.specs.Int.{◌∣◌}
-use Rattle.criteria_model.specs.Rows.{dot}
+use Rattle.row_laws.specs.Rows.{dot}
 use Rattle.fraction_free.specs.declared.loaded.LoadedRow.{LoadedRow}
 use Rattle.fraction_free.specs.Dictionary.{loaded_at}
 

@@ -2,7 +2,7 @@
 ghost use Rattle.std.specs.Prelude.{ℕ, ◌≡◌, ◌^◌, ◌<◌, All, pos, ◌≤ℤ◌, unsigned_abs};
 ghost use Rattle.std.specs.Int.{◌∣◌};
 ghost use Rattle.criteria_model.specs.Lists.{IsVector};
-ghost use Rattle.criteria_model.specs.Rows.{times};
+ghost use Rattle.row_laws.specs.Rows.{times};
 
 use criteria_model::Vector;
 use wide_step::gcd;

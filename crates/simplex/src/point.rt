@@ -1,7 +1,7 @@
 //! The vector of a feasible dictionary.
 ghost use Rattle.std.specs.Prelude.{ℕ, ◌≡◌, All, length, pos, ℤ, ◌≤ℤ◌};
 ghost use Rattle.criteria_model.specs.Lists.{IsVector};
-ghost use Rattle.criteria_model.specs.Rows.{times};
+ghost use Rattle.row_laws.specs.Rows.{times};
 ghost use Rattle.fraction_free.specs.Dictionary.{IsDictionary};
 ghost use Rattle.simplex.specs.Rows.{MeetsRows, IsCoprime};
 ghost use Rattle.simplex.specs.Choice.{IsFeasible};

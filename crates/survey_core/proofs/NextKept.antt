@@ -7,7 +7,7 @@ use Rattle.std.proofs.Math.Nat.{add-mul, mul-add, mul_comm}
 use Rattle.std.proofs.lemmas.List.{length-set, take-append-le, map-append}
 use Rattle.std.proofs.lemmas.List.Sums.{sum_by_push, count_by-le-length}
 use Rattle.std.proofs.lemmas.Option.{slice_get_within}
-use Rattle.criteria_model.proofs.RowLemmas.{length-map}
+use Rattle.std.proofs.lemmas.List.{length-map}
 use Rattle.criteria_model.specs.declared.pairs.Pair.{Pair}
 use Rattle.criteria_model.specs.declared.pairs.Answer.{Answer}
 use Rattle.criteria_model.specs.declared.pairs.Side.{Side}
@@ -356,7 +356,7 @@ module _ (listed : Listed) (history : List Event) (answers : AnswersWithRoom) (t
       let spend : most_events c (withdrawn + 1) ≤ MAX_EVENTS =
       subst (λ (w : ℕ). most_events c (w + 1) ≤ MAX_EVENTS) (sym kept.withdrawals_made) may.unspent in
       let few_open : count_by is_open_mark questions ≤ length table.questions =
-      omega (arith, count_by-le-length is_open_mark questions, length-map (left_question n) table.questions) in
+      omega (arith, count_by-le-length is_open_mark questions, length-map table.questions (left_question n)) in
       record {
         model = kept.model;
         legal = legal_push listed history event kept.legal is (unnamed listed history event may);
@@ -381,7 +381,7 @@ module _ (listed : Listed) (history : List Event) (answers : AnswersWithRoom) (t
               classes_len,
               count_by-le-length is_ranked_mark table.classes,
               length-append history (event ∷ []),
-              length-map (left_question n) table.questions,
+              length-map table.questions (left_question n),
               add-mul withdrawn 1 (2 * c + 1),
             );
         room_for_events = kept.room_for_events;

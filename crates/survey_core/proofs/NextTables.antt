@@ -11,7 +11,7 @@ use Rattle.std.proofs.lemmas.List.Concat.{flat_map-cons}
 use Rattle.std.proofs.lemmas.List.Folds.{list_any-append}
 use Rattle.std.proofs.lemmas.List.Sums.{sum_by-cons}
 use Rattle.std.proofs.lemmas.Option.{slice_get_within, slice_get-map, get_or_from_slice_get}
-use Rattle.criteria_model.proofs.RowLemmas.{length-map}
+use Rattle.std.proofs.lemmas.List.{length-map}
 use Rattle.criteria_model.specs.declared.pairs.Answer.{Answer}
 use Rattle.criteria_model.specs.declared.pairs.Side.{Side}
 use Rattle.farkas_check.specs.declared.combination.Combination.{Combination}
@@ -470,7 +470,7 @@ module _ (listed : Listed) (history : List Event) (sound : IsSound listed histor
       let asked_is : issued after ≡ issued history = issued-same history event refl in
       let resting_is : resting after ≡ filter (λ e. nat_lt e.level n) (resting history) = resting-withdraw listed history sound desk n some count in
       record {
-        len = length-map (left_mark n) table.classes ∙ table_of.len;
+        len = length-map table.classes (left_mark n) ∙ table_of.len;
         each_class =
             each_mapped (IsMark history) (IsMark after) (left_mark n) table.classes table_of.each_class
             (λ place m is. record {
@@ -493,7 +493,7 @@ module _ (listed : Listed) (history : List Event) (sound : IsSound listed histor
             });
         asked_count =
             count_mapped (λ m. m.issued) (λ m. m.issued) (left_mark n) (λ m. refl) table.classes ∙ table_of.asked_count
-            ∙ sym (length-map (left_question n) table.questions);
+            ∙ sym (length-map table.questions (left_question n));
         answer_count = λ most.
             count_mapped (is_answer_up_to most) (is_answer_up_to (min most (n - 1))) (left_mark n) (λ m. up_to_left n most m.ranking some) table.classes
             ∙ table_of.answer_count (min most (n - 1)) ∙ omega (arith, count);

@@ -7,7 +7,7 @@ use Rattle.std.proofs.lemmas.List.Folds.{list_any-append}
 use Rattle.std.proofs.lemmas.List.Sums.{sum_by-cons}
 use Rattle.std.proofs.lemmas.Option.{none-some, same_Some, slice_get_within, slice_get-map, get_or_from_slice_get}
 use Rattle.std.proofs.lemmas.Bool.{cases_lt}
-use Rattle.criteria_model.proofs.RowLemmas.{length-map}
+use Rattle.std.proofs.lemmas.List.{length-map}
 use Rattle.criteria_model.specs.declared.pairs.Side.{Side}
 use Rattle.criteria_model.specs.declared.pairs.Pair.{Pair}
 use Rattle.criteria_model.specs.declared.pairs.Answer.{Answer}
@@ -146,7 +146,7 @@ pub open_count : (history : List Event) (questions : List Question) → map (λ 
     → ((k : ℕ) (question : Question) → slice_get questions k ≡ Some question → IsQuestionMark history (k + 1) question)
     → length (open_questions history) ≡ count_by is_open_mark questions
 open_count history questions places each =
-    ap (λ n. length (filter (is_unended history) (range_with_len 1 n))) (sym (ap length places) ∙ length-map (λ question. question.place) questions)
+    ap (λ n. length (filter (is_unended history) (range_with_len 1 n))) (sym (ap length places) ∙ length-map questions (λ question. question.place))
     ∙ length_filter_range (is_unended history) is_open_mark 1 questions
     (λ k question at. ap (λ n. is_unended history n) (omega arith) ∙ question_unended history (k + 1) question (each k question at))
 
@@ -227,7 +227,7 @@ module _ {listed : Listed} {history : List Event} {answers : ℕ} {table : Table
       subst (λ (n : ℕ). IsQuestionMark history n question) same (table_of.each_question (number - 1) question at)
 
   pub issued_len : length (issued history) ≡ length table.questions
-  issued_len = ap (λ (l : List ℕ). length l) (sym table_of.places) ∙ length-map (λ (q : Question). q.place) table.questions
+  issued_len = ap (λ (l : List ℕ). length l) (sym table_of.places) ∙ length-map table.questions (λ (q : Question). q.place)
 
   pub asks_at : (number : ℕ) (question : Question) → 1 ≤ number → slice_get table.questions (number - 1) ≡ Some question
       → place_of (issued history) number ≡ Some question.place

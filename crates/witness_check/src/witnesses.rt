@@ -57,12 +57,7 @@ fn ranks(model: &Model, vector: &Vector, pair: &Pair, side: Side) -> bool
     requires fits { IsFit model.now.levels pair.now }
     ensures { IsTrue result ↔ Ranks model.now.levels vector.now pair.now side }
 {
-    let lead = vector.dot(&model.row(pair));
-    match side {
-        Side::Left => lead > 0,
-        Side::Right => lead < 0,
-        Side::Equal => lead == 0,
-    }
+    model.ranking(vector, pair) == side
 }
 
 #[cfg(test)]

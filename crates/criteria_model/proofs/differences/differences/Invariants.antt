@@ -1,5 +1,5 @@
 use Rattle.std.proofs.Common.{◌≡◌, take, length}
-use Rattle.criteria_model.specs.Rows.{minus}
+use Rattle.row_laws.specs.Rows.{minus}
 use Rattle.criteria_model.specs.Worth.{increments, has}
 use Rattle.criteria_model.proofs.differences.differences.Given as goal
 

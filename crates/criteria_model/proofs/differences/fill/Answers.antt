@@ -1,6 +1,6 @@
 use Rattle.std.proofs.Common.{◌≡◌, ◌+◌, ◌∙◌, ap, sym, length, arith, ◌++◌, ◌∷◌, [], SFits, to_z-of_z, w8, rules, ℕ}
 use Rattle.std.proofs.lemmas.List.{take_more_set, take_all}
-use Rattle.criteria_model.specs.Rows.{minus}
+use Rattle.row_laws.specs.Rows.{minus}
 use Rattle.criteria_model.specs.Worth.{has_on}
 use Rattle.criteria_model.proofs.LevelLemmas.{minus-has_on-more}
 use Rattle.criteria_model.proofs.differences.fill.Goals as goal

@@ -1,5 +1,5 @@
 use Rattle.std.proofs.Common.{◌≡◌, ◌+◌, take}
-use Rattle.criteria_model.specs.Rows.{minus}
+use Rattle.row_laws.specs.Rows.{minus}
 use Rattle.criteria_model.specs.Worth.{has_on}
 use Rattle.criteria_model.proofs.differences.fill.Given as goal
 

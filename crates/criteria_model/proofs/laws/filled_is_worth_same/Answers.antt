@@ -1,5 +1,5 @@
 use Rattle.std.proofs.Common.{ap}
-use Rattle.criteria_model.specs.Rows.{dot}
+use Rattle.row_laws.specs.Rows.{dot}
 use Rattle.criteria_model.proofs.LevelLemmas.{has-filled}
 use Rattle.criteria_model.proofs.laws.filled_is_worth_same.Goals as goal
 

@@ -5,7 +5,7 @@ use Rattle.std.specs.Prelude.{All}
 use Rattle.std.specs.Int.{◌∣◌}
 use Rattle.std.proofs.lemmas.List.Elements.{All-head}
 use Rattle.criteria_model.specs.declared.pairs.Answer.{Answer}
-use Rattle.criteria_model.specs.Rows.{times}
+use Rattle.row_laws.specs.Rows.{times}
 use Rattle.simplex.specs.declared.row_weights.RowWeight.{RowWeight}
 use Rattle.simplex.specs.Weights.{IsRowWeight, no_weight}
 use Rattle.simplex.proofs.Sizes.{kept}

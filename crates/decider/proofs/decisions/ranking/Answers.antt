@@ -2,7 +2,7 @@ use Rattle.std.proofs.Common.{◌≡◌, length, to_z, of_z, ap, sym, ◌∙◌,
 use mir.Syntax.{w128}
 use Rattle.std.proofs.lemmas.Int.{ints}
 use Rattle.criteria_model.specs.declared.pairs.Side.TheVariants.{Left}
-use Rattle.criteria_model.specs.Rows.{dot}
+use Rattle.row_laws.specs.Rows.{dot}
 use Rattle.criteria_model.specs.Answers.{gain}
 use Rattle.criteria_model.proofs.GainLemmas.{length-gain}
 use Rattle.simplex.proofs.Sizes.{kept}

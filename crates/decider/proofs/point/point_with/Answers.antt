@@ -4,7 +4,7 @@ use Rattle.criteria_model.specs.declared.pairs.Pair.{Pair}
 use Rattle.criteria_model.specs.declared.pairs.Answer.{Answer}
 use Rattle.criteria_model.specs.declared.pairs.Side.{Side}
 use Rattle.criteria_model.specs.declared.pairs.Side.TheVariants.{Equal}
-use Rattle.criteria_model.specs.Rows.{times}
+use Rattle.row_laws.specs.Rows.{times}
 use Rattle.criteria_model.specs.Answers.{Ranks, MeetsAll}
 use Rattle.decider.proofs.Standings.{rows_len-whole}
 use Rattle.decider.proofs.AnswerRows.{meets_more, meets_scaled, ranks_scaled, standing_meets, meets_standing}

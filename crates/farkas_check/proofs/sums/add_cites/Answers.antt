@@ -3,7 +3,7 @@ use Rattle.std.specs.Int.{w128}
 use Rattle.std.proofs.lemmas.Int.{to_z-of_z, fits_signed_from_abs}
 use Rattle.std.proofs.lemmas.Option.{slice_get_read}
 use Rattle.criteria_model.specs.declared.pairs.Answer.{Answer}
-use Rattle.criteria_model.specs.Rows.{plus, times}
+use Rattle.row_laws.specs.Rows.{plus, times}
 use Rattle.criteria_model.specs.Pairs.{IsFit}
 use Rattle.criteria_model.specs.Answers.{gain}
 use Rattle.criteria_model.specs.Lists.{IsRow}

@@ -2,12 +2,11 @@ use Rattle.std.proofs.Common.{◌≡◌, ℕ, ◌+◌, ◌^◌, ◌<◌, List, [
 use Rattle.std.specs.Int.{w128}
 use Rattle.std.proofs.lemmas.Int.{to_z-of_z, fits_signed_from_abs}
 use Rattle.std.proofs.lemmas.List.{map-append}
-use Rattle.criteria_model.specs.Rows.{plus, minus, times}
+use Rattle.row_laws.specs.Rows.{plus, minus, times}
 use Rattle.criteria_model.specs.Worth.{has_on, lies_above}
-use Rattle.criteria_model.proofs.Integers.{unsigned_abs-add}
-use Rattle.criteria_model.proofs.RowLemmas.{minus-self, length-minus, length-times}
+use Rattle.row_laws.proofs.Integers.{unsigned_abs-add}
+use Rattle.row_laws.proofs.RowLemmas.{minus-self, length-minus, length-times, plus-read, plus-push, plus-zeros, times-zeros}
 use Rattle.criteria_model.proofs.LevelLemmas.{length-has_on, minus-has_on-more}
-use Rattle.farkas_check.proofs.SumLemmas.{plus-read, plus-push, plus-zeros, times-zeros}
 use Rattle.farkas_check.proofs.sums.add_on_criterion.Goals as goal
 
 -- levels that are equal change nothing

@@ -1,5 +1,5 @@
 use Rattle.std.proofs.Common.{◌≡◌, ◌+◌}
-use Rattle.criteria_model.specs.Rows.{plus, minus, times}
+use Rattle.row_laws.specs.Rows.{plus, minus, times}
 use Rattle.criteria_model.specs.Worth.{has_on}
 use Rattle.farkas_check.proofs.sums.add_on_criterion.Given as goal
 

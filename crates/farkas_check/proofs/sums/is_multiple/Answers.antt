@@ -2,7 +2,7 @@ use Rattle.std.proofs.Common.{◌≡◌, ℕ, ◌<◌, List, length, get_or, ℤ
 use Rattle.std.specs.Int.{w128}
 use Rattle.std.proofs.lemmas.List.{ext_get_or, get_or-map, length-map}
 use Rattle.std.proofs.lemmas.Int.{to_z-of_z}
-use Rattle.criteria_model.specs.Rows.{times}
+use Rattle.row_laws.specs.Rows.{times}
 use Rattle.farkas_check.proofs.sums.is_multiple.Goals as goal
 
 multiple_by_place : (k : ℤ) (row sums : List ℤ) → length row ≡ length sums → ((i : ℕ) → i < length row → k *ℤ get_or row i (pos 0) ≡ get_or sums i (pos 0)) → times k row ≡ sums

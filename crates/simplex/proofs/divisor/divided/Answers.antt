@@ -1,7 +1,7 @@
 use Rattle.std.proofs.Common.{◌≡◌, ℕ, ◌<◌, ◌≤◌, ◌^◌, ℤ, pos, ◌≤ℤ◌, ◌*ℤ◌, List, length, get_or, take, unsigned_abs, to_z, of_z, refl, sym, ap, subst, ◌∙◌, arith}
 use mir.Syntax.{w128}
 use Rattle.std.proofs.lemmas.List.{length-set}
-use Rattle.criteria_model.specs.Rows.{times}
+use Rattle.row_laws.specs.Rows.{times}
 use Rattle.simplex.proofs.Sizes.{kept}
 use Rattle.simplex.proofs.Quotients.{quotient_fits, quotient_is, not_zero_bits, quotient_step, multiple_is, multiple_is_vector}
 use Rattle.simplex.proofs.divisor.divided.Goals as goal

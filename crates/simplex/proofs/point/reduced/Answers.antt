@@ -2,7 +2,7 @@ use Rattle.std.proofs.Common.{◌≡◌, ◌^◌, ◌<◌, ℤ, pos, ◌≤ℤ�
 use mir.Syntax.{w128}
 use Rattle.std.specs.Prelude.{All}
 use Rattle.std.specs.Int.{◌∣◌}
-use Rattle.criteria_model.specs.Rows.{times}
+use Rattle.row_laws.specs.Rows.{times}
 use Rattle.simplex.proofs.Sizes.{kept}
 use Rattle.simplex.proofs.Quotients.{divisor_positive, multiple_is_positive, quotient_is_coprime}
 use Rattle.simplex.proofs.point.reduced.Goals as goal

@@ -2,8 +2,8 @@ use Rattle.std.proofs.Common.{◌≡◌, ◌<◌, ◌≤◌, ◌^◌, ◌∙◌,
 use mir.Syntax.{w8, w128}
 use Rattle.std.proofs.lemmas.Int.{fits_signed_from_abs, to_z-of_z}
 use Rattle.std.proofs.lemmas.List.{take_all}
-use Rattle.criteria_model.specs.Rows.{dot}
-use Rattle.criteria_model.proofs.RowLemmas.{dot-take_more}
+use Rattle.row_laws.specs.Rows.{dot}
+use Rattle.row_laws.proofs.RowLemmas.{dot-take_more}
 use Rattle.criteria_model.proofs.DotLemmas.{term_fits, next_sum_fits, next_sum_size, total_is}
 use Rattle.criteria_model.proofs.vectors.Vector.dot.Goals as goal
 

@@ -1,5 +1,5 @@
 use Rattle.std.proofs.Common.{◌≡◌, ◌*◌, ◌^◌, ◌≤◌, take, unsigned_abs}
-use Rattle.criteria_model.specs.Rows.{dot}
+use Rattle.row_laws.specs.Rows.{dot}
 use Rattle.criteria_model.proofs.vectors.Vector.dot.Given as goal
 
 abbrev pub invariant-loop-place : goal.invariant-loop-place

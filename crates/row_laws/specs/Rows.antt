@@ -1,5 +1,9 @@
--- Rows of whole numbers, one for each increment. A place that a row lacks counts as 0.
-use Rattle.std.specs.Prelude.{List, [], ◌∷◌, map, ℤ, pos, ◌+ℤ◌, ◌-ℤ◌, ◌*ℤ◌, neg_ℤ}
+-- Rows of whole numbers. A place that a row lacks counts as 0.
+use Rattle.std.specs.Prelude.{ℕ, List, [], ◌∷◌, map, slice_index_or, ℤ, pos, ◌+ℤ◌, ◌-ℤ◌, ◌*ℤ◌, neg_ℤ}
+
+-- the number at a place, counted from 0
+abbrev pub entry : List ℤ → ℕ → ℤ
+entry row place = slice_index_or row place (pos 0)
 
 -- the sum of the products, place by place
 abbrev pub dot : List ℤ → List ℤ → ℤ

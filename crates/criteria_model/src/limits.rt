@@ -1,0 +1,13 @@
+// The limits of models, and of the numbers in certificates.
+
+/// The most increments of a model, and so the most criteria.
+pub const MAX_INCREMENTS: usize = 24;
+
+/// The highest level of a criterion.
+pub const MAX_LEVEL: u8 = 25;
+
+/// The most classes of a model.
+pub const MAX_CLASSES: u32 = 16_384;
+
+/// What each number of a value vector or of a combination is below in size.
+pub const CERTIFICATE_BOUND: u128 = 1 << 96;

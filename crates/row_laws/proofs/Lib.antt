@@ -1,0 +1,5 @@
+pub mod Integers
+pub mod Signs
+pub mod ListLemmas
+pub mod RowLemmas
+pub mod Totals
