@@ -2,13 +2,13 @@
 //! value vectors.
 //!
 //! A `Model` is made from level counts and a degree limit, or refused with the first fault that
-//! holds. It says of a pair whether it fits, is a class, and which increments the winner has more
-//! (`gain`); a vector ranks a pair by the sign of its product with that row (`Vector::dot`).
-//! `Tuple`, `Vector` and `Row` are Copy lists of 1 to 24 numbers that contracts see as lists.
-//! `laws` has the laws of the definitions. No call takes memory.
+//! holds. It says of a pair whether it fits, is a class, which increments the winner has more
+//! (`gain`), and which side a vector makes worth more (`ranking`). `Tuple`, `Vector` and `Row` are
+//! Copy lists of 1 to `MAX_INCREMENTS` numbers that contracts see as lists. `laws` has the laws of
+//! the definitions. No call takes memory.
 //!
-//! Inside: `counting` has the numbers of a model, `levels` compares two lists of levels,
-//! `differences` makes rows.
+//! Inside: `limits` names the limits, `counting` has the numbers of a model, `levels` compares two
+//! lists of levels, `differences` makes rows.
 #![tactic(auto)]
 
 pub use faults::ModelFault;

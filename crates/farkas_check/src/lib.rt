@@ -2,8 +2,8 @@
 //! transposition theorem).
 //!
 //! `flaw` names the first part that a combination lacks, `proves` says whether there is none, and
-//! the law `laws::proved_is_ranked` says what a proof is worth. `Cites` keeps at most 24 cited
-//! answers with weights, ascending. No call takes memory.
+//! the law `laws::proved_is_ranked` says what a proof is worth. `Cites` keeps at most `MAX_CITES`
+//! cited answers with weights, ascending. No call takes memory.
 //!
 //! Inside: `parts` tests the parts that compare signs and numbers, `sums` adds up the totals,
 //! `proof` asks them in order. The sums build no row: they compare the two levels of each criterion
