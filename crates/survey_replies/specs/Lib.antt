@@ -1,0 +1,13 @@
+pub mod Requests
+pub mod Outcomes
+pub mod Interview
+pub mod ReplyLaw
+pub mod Certificates
+pub mod Appended
+pub mod Gists
+pub mod Calls
+pub mod PlainRun
+pub mod Laws
+pub mod CallLaws
+pub mod JournalLaws
+pub mod PlainLaws
