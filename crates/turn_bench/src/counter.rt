@@ -1,4 +1,4 @@
-//! What lies behind the locks: a number of steps, with an empty journal.
+//! What the locks guard: a number of steps, with an empty journal.
 use turn_lock::Journalled;
 
 /// What is stepped: a plain number.

@@ -7,7 +7,7 @@ use std::thread::{Threads, join};
 
 type Lock = Mutex<Counter>;
 
-/// Steps so often, each time under the lock.
+/// Steps in each round, under the lock.
 fn step_often<R: Wait>(rt: &R, lock: &Lock, rounds: u32) {
     for _ in 0..rounds {
         let mut counter = lock.lock(rt);
@@ -15,7 +15,7 @@ fn step_often<R: Wait>(rt: &R, lock: &Lock, rounds: u32) {
     }
 }
 
-/// Steps so often by each of two threads.
+/// Steps in each round by two threads.
 fn step_in_two<R: Threads + Wait + Sync>(rt: &R, lock: &Lock, rounds: u32) {
     join(
         rt,
@@ -24,21 +24,21 @@ fn step_in_two<R: Threads + Wait + Sync>(rt: &R, lock: &Lock, rounds: u32) {
     );
 }
 
-/// The steps that one thread counts in so many rounds.
-pub fn alone<R: Wait>(rt: &R, rounds: u32) -> u64 {
+/// The steps that one thread counts.
+pub fn by_one<R: Wait>(rt: &R, rounds: u32) -> u64 {
     let lock = Mutex::new(Counter { steps: 0 });
     step_often(rt, &lock, rounds);
     lock.into_inner().steps
 }
 
-/// The steps that two threads count in so many rounds each.
+/// The steps that two threads count, each in all rounds.
 pub fn by_two<R: Threads + Wait + Sync>(rt: &R, rounds: u32) -> u64 {
     let lock = Mutex::new(Counter { steps: 0 });
     step_in_two(rt, &lock, rounds);
     lock.into_inner().steps
 }
 
-/// The steps that four threads count in so many rounds each.
+/// The steps that four threads count, each in all rounds.
 pub fn by_four<R: Threads + Wait + Sync>(rt: &R, rounds: u32) -> u64 {
     let lock = Mutex::new(Counter { steps: 0 });
     let lent = &lock;

@@ -13,10 +13,10 @@ fn main(rt: HostRuntime) -> io::Result<()> {
     let rounds = if timed { 2_000_000 } else { 1_000 };
     println!(rt; "threads  lock    steps")?;
     let start = Instant::now(&rt)?;
-    let steps = turns::alone(&rt, rt.alloc(), rounds)?;
+    let steps = turns::by_one(&rt, rt.alloc(), rounds)?;
     report(&rt, 1, "turn", steps, start.elapsed(&rt)?, timed)?;
     let start = Instant::now(&rt)?;
-    let steps = locks::alone(&rt, rounds);
+    let steps = locks::by_one(&rt, rounds);
     report(&rt, 1, "mutex", steps, start.elapsed(&rt)?, timed)?;
     let start = Instant::now(&rt)?;
     let steps = turns::by_two(&rt, rt.alloc(), rounds)?;

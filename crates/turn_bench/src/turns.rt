@@ -13,7 +13,7 @@ type Lock = Turn<Counter>;
 
 type Seat = TurnSeat<Counter>;
 
-/// Steps so often, each time in a turn of the seat.
+/// Steps in each round, in a turn of the seat.
 fn step_often<R: Wait + Sync>(rt: &R, turn: &Lock, mut seat: Seat, rounds: u32) -> Seat
     requires { IsOutsideOf turn.now seat }
     ensures { IsOutsideOf turn.now result × (weight result ≡ weight seat) }
@@ -26,7 +26,7 @@ fn step_often<R: Wait + Sync>(rt: &R, turn: &Lock, mut seat: Seat, rounds: u32) 
     seat
 }
 
-/// Steps so often by each of two threads, with a seat each.
+/// Steps in each round by two threads, with a seat each.
 fn step_in_two<R: Threads + Wait + Sync>(rt: &R, turn: &Lock, mut first: Seat, rounds: u32) -> Seat
     requires { IsOutsideOf turn.now first × (2 ≤ weight first) }
     ensures { IsOutsideOf turn.now result × (weight result ≡ weight first) }
@@ -47,14 +47,14 @@ fn step_in_two<R: Threads + Wait + Sync>(rt: &R, turn: &Lock, mut first: Seat, r
     first
 }
 
-/// The steps that one seat counts in so many rounds.
-pub fn alone<R: Wait + Sync>(rt: &R, alloc: Global, rounds: u32) -> Result<u64, AllocError> {
+/// The steps that one seat counts.
+pub fn by_one<R: Wait + Sync>(rt: &R, alloc: Global, rounds: u32) -> Result<u64, AllocError> {
     let (turn, seat) = Turn::new(alloc, Counter { steps: 0 }, 1)?;
     let seat = step_often(rt, &turn, seat, rounds);
     Ok(turn.close(seat).steps)
 }
 
-/// The steps that two seats count in so many rounds each, on a thread each.
+/// The steps that two seats count, each in all rounds, on a thread each.
 pub fn by_two<R: Threads + Wait + Sync>(
     rt: &R,
     alloc: Global,
@@ -65,7 +65,7 @@ pub fn by_two<R: Threads + Wait + Sync>(
     Ok(turn.close(seat).steps)
 }
 
-/// The steps that four seats count in so many rounds each, on a thread each.
+/// The steps that four seats count, each in all rounds, on a thread each.
 pub fn by_four<R: Threads + Wait + Sync>(
     rt: &R,
     alloc: Global,

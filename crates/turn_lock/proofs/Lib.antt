@@ -1,4 +1,5 @@
 pub mod Prefixes
 pub mod Totals
-mod Keeps
-mod Parts
+mod RuleLemmas
+mod WordSteps
+mod SeatSteps

@@ -4,7 +4,7 @@ use Rattle.std.specs.List.{range_with_len}
 use Rattle.std.proofs.lemmas.Bool.Decides.{nat_tests}
 use mathlib.Core.Option.{some, some-injective, some-ne-none}
 use lib.ListN.{get_elem?}
-use Rattle.turn_lock.specs.Rule.{total, times, once}
+use Rattle.turn_lock.specs.Rule.{total, occurrences, one_between}
 
 module _ {V : Type 0} where
   -- the sum after a change of one view
@@ -53,21 +53,21 @@ module _ {V : Type 0} where
       let q = total_le f (λ _. 0) xs (λ j w d. let n = h (suc j) w (λ n. absurd (omega arith)) d in omega arith) in omega arith
   total_only f (x ∷ xs) (suc i) v e h = let p = h zero x (λ n. absurd (omega arith)) refl in let q = total_only f xs i v e (λ j w n d. h (suc j) w (λ s. n (omega arith)) d) in omega arith
 
-pub times_append : (k : ℕ) (xs ys : List ℕ) → times k (xs ++ ys) ≡ times k xs + times k ys
-times_append k [] ys = omega arith
-times_append k (x ∷ xs) ys = let p = times_append k xs ys in omega arith
+pub occurrences_append : (k : ℕ) (xs ys : List ℕ) → occurrences k (xs ++ ys) ≡ occurrences k xs + occurrences k ys
+occurrences_append k [] ys = omega arith
+occurrences_append k (x ∷ xs) ys = let p = occurrences_append k xs ys in omega arith
 
--- a range has each of its numbers once
-pub times_range : (k a n : ℕ) → times k (range_with_len a n) ≡ once a (a + n) k
-times_range k a zero = grind (arith, nat_tests)
-times_range k a (suc n) = let p = times_range k (a + 1) n in grind (arith, nat_tests)
+-- a range has each of its numbers one_between
+pub occurrences_range : (k a n : ℕ) → occurrences k (range_with_len a n) ≡ one_between a (a + n) k
+occurrences_range k a zero = grind (arith, nat_tests)
+occurrences_range k a (suc n) = let p = occurrences_range k (a + 1) n in grind (arith, nat_tests)
 
 -- two ranges side by side
-pub once_beside : (a b c k : ℕ) → a ≤ b → b ≤ c → once a b k + once b c k ≡ once a c k
-once_beside a b c k l m = grind (arith, nat_tests)
+pub one_between_beside : (a b c k : ℕ) → a ≤ b → b ≤ c → one_between a b k + one_between b c k ≡ one_between a c k
+one_between_beside a b c k l m = grind (arith, nat_tests)
 
-pub once_le : (a b k : ℕ) → once a b k ≤ 1
-once_le a b k = grind (arith, nat_tests)
+pub one_between_le : (a b k : ℕ) → one_between a b k ≤ 1
+one_between_le a b k = grind (arith, nat_tests)
 
-pub once_inside : (a b k : ℕ) → 1 ≤ once a b k → (a ≤ k) × (k < b)
-once_inside a b k h = grind (arith, nat_tests)
+pub one_between_inside : (a b k : ℕ) → 1 ≤ one_between a b k → (a ≤ k) × (k < b)
+one_between_inside a b k h = grind (arith, nat_tests)

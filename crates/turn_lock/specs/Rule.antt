@@ -8,10 +8,11 @@ use Rattle.atomic_table.specs.Table.{State}
 use Rattle.turn_lock.specs.declared.rule.View.{View}
 use Rattle.turn_lock.specs.declared.rule.Stage.{Stage}
 use Rattle.turn_lock.specs.declared.rule.Stage.TheVariants.{Outside, Waiting, Served}
+use Rattle.turn_lock.specs.declared.limits.TheConstants.{MAX_SEATS}
 
 -- 1 where from ≤ k < to, and else 0
-abbrev pub once : ℕ → ℕ → ℕ → ℕ
-once from to k = cond (leb from k && ltb k to) 1 0
+abbrev pub one_between : ℕ → ℕ → ℕ → ℕ
+one_between from to k = cond (leb from k && ltb k to) 1 0
 
 -- f of each element, added up
 abbrev pub total : {X : Type 0} → (X → ℕ) → List X → ℕ
@@ -19,8 +20,12 @@ total f [] = 0
 total f (x ∷ xs) = f x + total f xs
 
 -- how often the number stands in the list
-abbrev pub times : ℕ → List ℕ → ℕ
-times k ks = total (λ n. cond (n == k) 1 0) ks
+abbrev pub occurrences : ℕ → List ℕ → ℕ
+occurrences k ks = total (λ n. cond (n == k) 1 0) ks
+
+-- each number from the first up to the second stands once in the list, and no other
+abbrev pub AreAllPlaces : ℕ → ℕ → List ℕ → Type 0
+AreAllPlaces from to places = (k : ℕ) → occurrences k places ≡ one_between from to k
 
 module _ {E : Type 0} where
   -- 1 where the seat has drawn a ticket and not passed on
@@ -49,15 +54,15 @@ module _ {E : Type 0} where
 
 module _ {E K : Type 0} where
   -- a seat outside
-  abbrev pub sitting : ℕ → List E → List ℕ → Option K → View E K
-  sitting weight front own kind = record { stage = Outside; weight = weight; front = front; other = []; own = own; kind = kind }
+  abbrev pub seat_outside : ℕ → List E → List ℕ → Option K → View E K
+  seat_outside weight front own kind = record { stage = Outside; weight = weight; front = front; other = []; own = own; kind = kind }
 
   -- the view of a seat that was joined into another
   abbrev pub spent : View E K
-  spent = sitting 0 [] [] None
+  spent = seat_outside 0 [] [] None
 
   -- a seat that isn't spent: its fronts are prefixes of the list
-  pub record Sits (log : List E) (of : K) (serving : ℕ) (v : View E K) : Type 0 where
+  pub record IsSeated (log : List E) (of : K) (serving : ℕ) (v : View E K) : Type 0 where
     pub stage : Knows serving log v.stage
     pub weight : 1 ≤ v.weight
     pub front : IsPrefix v.front log
@@ -78,7 +83,7 @@ module _ {E K : Type 0} where
 
   -- how often the place is an own place, over all seats
   abbrev pub owners : ℕ → List (View E K) → ℕ
-  owners k views = total (λ v. times k v.own) views
+  owners k views = total (λ v. occurrences k v.own) views
 
   -- the weights of all seats, added up
   abbrev pub weight_of_all : List (View E K) → ℕ
@@ -91,29 +96,29 @@ is_home (some x) = 1
 
 module _ {S E K : Type 0} (entries : S → List E) (kind : S → K) where
   -- at home the slot has a state with this list, of this kind
-  abbrev pub Lies : List E → K → Maybe (Option S) → Type 0
-  Lies log of none = Unit {0}
-  Lies log of (some None) = ⊥
-  Lies log of (some (Some x)) = (entries x ≡ log) × (kind x ≡ of)
+  abbrev pub HoldsState : List E → K → Maybe (Option S) → Type 0
+  HoldsState log of none = Unit {0}
+  HoldsState log of (some None) = ⊥
+  HoldsState log of (some (Some x)) = (entries x ≡ log) × (kind x ≡ of)
 
   -- What holds after each step, of a turn that began with the state `opening` and seats of the weight `seats`
-  pub record Kept (opening : S) (seats : ℕ) (s : State (Option S) (View E K)) : Type 0 where
+  pub record ObeysRule (opening : S) (seats : ℕ) (s : State (Option S) (View E K)) : Type 0 where
     pub log : List E
     pub ticket : ℕ
     pub serving : ℕ
     pub home : Maybe (Option S)
     pub words : s.words ≡ length log ∷ ticket % 2 ^ 64 ∷ serving % 2 ^ 64 ∷ []
     pub homes : s.homes ≡ home ∷ []
-    -- the tickets that are out are distinct, lie from serving up to ticket, and are as many, at most 64
-    pub tickets : (k : ℕ) → with_ticket k s.views ≡ once serving ticket k
+    -- the tickets that are out are distinct, lie from serving up to ticket, and are as many, at most MAX_SEATS
+    pub tickets : (k : ℕ) → with_ticket k s.views ≡ one_between serving ticket k
     pub as_many : serving + out s.views ≡ ticket
-    pub at_most : out s.views ≤ 64
+    pub at_most : out s.views ≤ MAX_SEATS
     -- at most one seat is served, and the slot is at home exactly where none is
     pub one_served : served s.views + is_home home ≡ 1
-    pub slot : Lies log (kind opening) home
+    pub slot : HoldsState log (kind opening) home
     -- the list began as the opening list, and each place past that is an own place of exactly one seat
     pub began : IsPrefix (entries opening) log
-    pub owned : (k : ℕ) → owners k s.views ≡ once (length (entries opening)) (length log) k
+    pub owned : (k : ℕ) → owners k s.views ≡ one_between (length (entries opening)) (length log) k
     pub weights : weight_of_all s.views ≡ seats
-    pub few : seats ≤ 64
-    pub each_seat : (i : ℕ) (v : View E K) → get_elem? s.views i ≡ some v → (v ≡ spent) ⊎ Sits log (kind opening) serving v
+    pub few : seats ≤ MAX_SEATS
+    pub each_seat : (i : ℕ) (v : View E K) → get_elem? s.views i ≡ some v → (v ≡ spent) ⊎ IsSeated log (kind opening) serving v

@@ -18,28 +18,28 @@ module _ {S E K : Type 0} where
 module _ {S E K : Type 0} {g : Ghosts S E K} where
   -- the seat is one of this turn
   abbrev pub IsSeatOf : Turn S E K → TurnSeat S E K g → Type 0
-  IsSeatOf t p = (p.place.table_id ≡ t.table.shared.table_id) × (p.place.me.0.kind ≡ Some (g.kind (opening t)))
+  IsSeatOf t p = (p.token.table_id ≡ t.table.shared.table_id) × (p.token.me.0.kind ≡ Some (g.kind (opening t)))
 
   -- the seat is one of this turn, and outside
   abbrev pub IsOutsideOf : Turn S E K → TurnSeat S E K g → Type 0
-  IsOutsideOf t p = IsSeatOf t p × (p.place.me.0.stage ≡ Outside)
+  IsOutsideOf t p = IsSeatOf t p × (p.token.me.0.stage ≡ Outside)
 
   -- the seat is one of this turn, and inside
   abbrev pub IsInsideOf : Turn S E K → TurnSeat S E K g → Type 0
-  IsInsideOf t p = IsSeatOf t p × (is_inside p.place.me.0.stage ≡ true)
+  IsInsideOf t p = IsSeatOf t p × (is_inside p.token.me.0.stage ≡ true)
 
   -- how many seats it can be split into
   abbrev pub weight : TurnSeat S E K g → ℕ
-  weight p = p.place.me.0.weight
+  weight p = p.token.me.0.weight
 
   -- the list that the seat has seen
   abbrev pub front : TurnSeat S E K g → List E
-  front p = p.place.me.0.front
+  front p = p.token.me.0.front
 
   -- the places of the entries that were added in its turns, or in those of seats joined into it
   abbrev pub own : TurnSeat S E K g → List ℕ
-  own p = p.place.me.0.own
+  own p = p.token.me.0.own
 
   -- the list that `enter` gave, while the seat is inside
   abbrev pub given : TurnSeat S E K g → List E
-  given p = log_of p.place.me.0.stage
+  given p = log_of p.token.me.0.stage

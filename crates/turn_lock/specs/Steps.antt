@@ -1,4 +1,4 @@
--- What each step tells its seat.
+-- What each step lets its seat know.
 use Rattle.std.specs.Prelude.{◌≡◌, ◌≢◌, ◌⊎◌, ℕ, ◌+◌, ◌-◌, ◌%◌, ◌^◌, ◌≤◌, Bool, true, false, List, [], ◌∷◌, ◌++◌, length, Option, Some, None}
 use Rattle.std.specs.List.{range_with_len}
 use mathlib.Core.List.{IsPrefix}
@@ -6,7 +6,8 @@ use Rattle.atomic_table.specs.Table.{Me, Step, rest}
 use Rattle.turn_lock.specs.declared.rule.View.{View}
 use Rattle.turn_lock.specs.declared.rule.Stage.{Stage}
 use Rattle.turn_lock.specs.declared.rule.Stage.TheVariants.{Outside, Waiting, Served}
-use Rattle.turn_lock.specs.Rule.{sitting}
+use Rattle.turn_lock.specs.declared.limits.TheConstants.{MAX_SEATS}
+use Rattle.turn_lock.specs.Rule.{seat_outside}
 
 module _ {E : Type 0} where
   -- the ticket of a seat that is out
@@ -40,8 +41,8 @@ module _ {E : Type 0} where
   is_inside (Served n log) = true
 
 -- the places from the end of one list up to the end of a longer one
-abbrev pub places : {E : Type 0} → List E → List E → List ℕ
-places before after = range_with_len (length before) (length after - length before)
+abbrev pub new_places : {E : Type 0} → List E → List E → List ℕ
+new_places before after = range_with_len (length before) (length after - length before)
 
 module _ {E K : Type 0} where
   -- at another stage, with all else the same
@@ -50,7 +51,7 @@ module _ {E K : Type 0} where
 
   -- the new list is marked, and its new places are the seat's own
   abbrev pub with_list : View E K → List E → View E K
-  with_list v list = record v { stage = Served (ticket_of v.stage) list; own = v.own ++ places (log_of v.stage) list }
+  with_list v list = record v { stage = Served (ticket_of v.stage) list; own = v.own ++ new_places (log_of v.stage) list }
 
   -- outside again, with the list for its front
   abbrev pub back_outside : View E K → View E K
@@ -61,8 +62,8 @@ module _ {E K : Type 0} where
   lighter v = record v { weight = v.weight - 1 }
 
   -- the new seat of a split, with weight 1, the same front and no own places
-  abbrev pub cut_off : View E K → View E K
-  cut_off v = sitting 1 v.front [] v.kind
+  abbrev pub split_off : View E K → View E K
+  split_off v = seat_outside 1 v.front [] v.kind
 
   -- both weights, both fronts and the own places of both
   abbrev pub joined : View E K → View E K → View E K
@@ -96,4 +97,4 @@ module _ {S E K : Type 0} where
   -- the shorter of the two fronts is a prefix of the longer
   abbrev pub met : Step (Option S) → Me (Option S) (View E K) → ℕ → Me (Option S) (View E K) → Type 0
   met st m found m' =
-      (front : List E) × (m' ≡ (with_front m.0 front, m.1)) × IsPrefix m.0.front front × IsPrefix m.0.other front × ((front ≡ m.0.front) ⊎ (front ≡ m.0.other)) × (m.0.weight ≤ 64)
+      (front : List E) × (m' ≡ (with_front m.0 front, m.1)) × IsPrefix m.0.front front × IsPrefix m.0.other front × ((front ≡ m.0.front) ⊎ (front ≡ m.0.other)) × (m.0.weight ≤ MAX_SEATS)

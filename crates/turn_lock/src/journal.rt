@@ -1,4 +1,4 @@
-//! What can lie behind a turn.
+//! What a turn can lend.
 ghost use Rattle.std.specs.Prelude.{◌≡◌, List, length};
 
 /// A value that keeps a list of entries, from place 0 on, and belongs to a kind.

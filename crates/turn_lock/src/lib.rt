@@ -10,17 +10,19 @@
 //! weight and, while inside, a count. Only `Turn::new` takes memory. Only `enter` may wait: it
 //! spins a little and then sleeps on the word that says who is served. Nothing is claimed of
 //! progress.
+//!
+//! The rule that each step keeps is in specs/Rule.antt, what contracts see of a seat in
+//! specs/Seats.antt.
 #![tactic(auto)]
 
 mod journal;
-mod plays;
+mod limits;
 mod rule;
+mod steps;
 mod turn;
 
 pub use journal::Journalled;
-/// The one refusal: there was no memory.
+pub use limits::MAX_SEATS;
+/// The one error: out of memory.
 pub use std::alloc::AllocError as NoMemory;
 pub use turn::{Turn, TurnSeat};
-
-#[cfg(test)]
-mod tests;

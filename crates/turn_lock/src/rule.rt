@@ -24,29 +24,32 @@ pub struct View<E, K> {
     pub kind: Option<K>,
 }
 
-/// What the table is told once: the opening state and the weight of all seats.
+/// What is fixed with the table: the opening state and the weight of all seats.
 #[derive(Drop)]
 pub struct Opening<S> {
     pub state: Snapshot<S>,
     pub seats: u64,
 }
 
+/// The rule that each step keeps.
 pub struct TicketRule<S> {
     of: PhantomData<S>,
 }
 
 impl<S: Journalled> TableRule<Option<S>, View<S::Entry, S::Kind>, Opening<S>> for TicketRule<S> {
     ghost use Rattle.std.specs.Prelude.{[], Some};
-    ghost use Rattle.turn_lock.specs.Rule.{Kept, sitting};
+    ghost use Rattle.turn_lock.specs.Rule.{ObeysRule, seat_outside};
 
-    ghost holds = { λ key. Kept S.entries S.kind key.state.value key.seats };
+    ghost holds = { λ key. ObeysRule S.entries S.kind key.state.value key.seats };
 
-    ghost first = { λ key. sitting key.seats (S.entries key.state.value) [] (Some (S.kind key.state.value)) };
+    ghost first = { λ key. seat_outside key.seats (S.entries key.state.value) [] (Some (S.kind key.state.value)) };
 }
 
-pub type Place<S> = Seat<Option<S>, View<<S as Journalled>::Entry, <S as Journalled>::Kind>>;
+/// What a seat steps with: a seat of the table.
+pub type Token<S> = Seat<Option<S>, View<<S as Journalled>::Entry, <S as Journalled>::Kind>>;
 
-pub type Board<S> = Table<
+/// The table: three words, and one slot for the state.
+pub type TurnTable<S> = Table<
     Option<S>,
     View<<S as Journalled>::Entry, <S as Journalled>::Kind>,
     Opening<S>,

@@ -1,10 +1,12 @@
 //! The lock and its seats.
 ghost use Rattle.std.specs.Prelude.{◌≡◌, ◌≤◌, false, length};
+ghost use Rattle.turn_lock.specs.declared.limits.TheConstants.{MAX_SEATS};
 ghost use Rattle.turn_lock.specs.Steps.{holding, is_waiting, log_of};
 
 use crate::journal::Journalled;
-use crate::plays::{Cut, Draw, Glue, Look, Mark, Meet, Noted, PassOn};
-use crate::rule::{Board, Opening, Place};
+use crate::limits::MAX_SEATS;
+use crate::rule::{Opening, Token, TurnTable};
+use crate::steps::{Draw, Join, Look, Mark, MarkedList, Meet, PassOn, Split};
 use atomic_table::Table;
 use std::alloc::{AllocError as NoMemory, Global};
 use std::hint;
@@ -12,6 +14,10 @@ use std::marker::Brand;
 use std::snapshot::Snapshot;
 use std::sync::Wait;
 
+#[cfg(test)]
+mod tests;
+
+// The words of the table: the count of entries, the next ticket and the ticket that is served.
 const COUNT: usize = 0;
 
 const TICKET: usize = 1;
@@ -29,37 +35,39 @@ fn low_half(word: u64) -> u32 {
 /// A ticket lock over a state whose list only grows.
 #[derive(Drop)]
 pub struct Turn<S: Journalled> {
-    table: Board<S>,
+    table: TurnTable<S>,
     ghost sized: { (table.shared.table_id.words ≡ 3) × (table.shared.table_id.slots ≡ 1) },
 }
 
-/// A right to take turns. The weight of a seat that is dropped stays out, so its turn is never closed, and one that
-/// is dropped inside lets no other in.
+/// A right to take turns, for one thread at a time.
+///
+/// A turn can't be closed once one of its seats was dropped, since its weight is missing then. A seat that is dropped
+/// inside lets no other in.
 #[derive(Drop)]
 pub struct TurnSeat<S: Journalled> {
-    place: Place<S>,
+    token: Token<S>,
     weight: u64,
     /// While inside, how many entries the state had that `enter` gave.
     count: u64,
-    ghost weighs: { (weight ≡ place.me.0.weight) × (weight ≤ 64) },
-    ghost counts: { count ≡ length (log_of place.me.0.stage) },
-    ghost holds: { place.me.1 ≡ holding place.me.0.stage },
-    ghost settled: { is_waiting place.me.0.stage ≡ false },
+    ghost weighs: { (weight ≡ token.me.0.weight) × (weight ≤ MAX_SEATS) },
+    ghost counts: { count ≡ length (log_of token.me.0.stage) },
+    ghost holds: { token.me.1 ≡ holding token.me.0.stage },
+    ghost settled: { is_waiting token.me.0.stage ≡ false },
 }
 
 impl<S: Journalled> Turn<S> {
     ghost use Rattle.std.specs.Prelude.{ℕ, ◌+◌, ◌%◌, ◌^◌, ◌++◌, ◌⊎◌, [], true, IfOk};
     ghost use mathlib.Core.List.{IsPrefix};
     ghost use Rattle.turn_lock.specs.declared.rule.Stage.TheVariants.{Waiting};
-    ghost use Rattle.turn_lock.specs.Rule.{once, times};
-    ghost use Rattle.turn_lock.specs.Steps.{Takes, is_inside, places, with_list};
+    ghost use Rattle.turn_lock.specs.Rule.{AreAllPlaces};
+    ghost use Rattle.turn_lock.specs.Steps.{Takes, is_inside, new_places, with_list};
     ghost use Rattle.turn_lock.specs.Seats.{IsInsideOf, IsOutsideOf, front, given, opening, own, weight, whole_weight};
 
     /// A turn around `state`, and one seat with the weight `seats`.
     pub fn new(alloc: Global, state: S, seats: u32) -> Result<(Turn<S>, TurnSeat<S>), NoMemory>
     where
         S: Drop,
-        requires { (1 ≤ seats) × (seats ≤ 64) }
+        requires { (1 ≤ seats) × (seats ≤ MAX_SEATS) }
         ensures turn { IfOk result (λ r. (opening r.0 ≡ state) × (whole_weight r.0 ≡ seats)) }
         ensures seat { IfOk result (λ r. IsOutsideOf r.0 r.1) }
         ensures knows { IfOk result (λ r. (weight r.1 ≡ seats) × (front r.1 ≡ S.entries state) × (own r.1 ≡ [])) }
@@ -72,11 +80,11 @@ impl<S: Journalled> Turn<S> {
         };
         let mut slots = Vec::with_capacity(alloc, 1)?;
         slots.push_reserved(Some(state));
-        let Ok((table, place)) = Table::new(alloc, &words, slots, &about) else {
+        let Ok((table, token)) = Table::new(alloc, &words, slots, &about) else {
             return Err(NoMemory);
         };
         let seat = TurnSeat {
-            place,
+            token,
             weight: seats,
             count: 0,
         };
@@ -91,10 +99,10 @@ impl<S: Journalled> Turn<S> {
         ensures lent { (weight seat.new + 1 ≡ weight seat.old) × (front seat.new ≡ front seat.old) × (own seat.new ≡ own seat.old) }
         ensures new { (weight result ≡ 1) × (front result ≡ front seat.old) × (own result ≡ []) }
     {
-        let place = self.table.shared.split_seat::<Cut>(&mut seat.place);
+        let token = self.table.shared.split_seat::<Split>(&mut seat.token);
         seat.weight -= 1;
         TurnSeat {
-            place,
+            token,
             weight: 1,
             count: 0,
         }
@@ -111,9 +119,9 @@ impl<S: Journalled> Turn<S> {
         let number = self
             .table
             .shared
-            .fetch_add::<Draw>(&mut seat.place, TICKET, 1);
-        self.wait(rt, &mut seat.place, number);
-        let Some(state) = self.table.shared.exchange(&mut seat.place, 0, None) else {
+            .fetch_add::<Draw>(&mut seat.token, TICKET, 1);
+        self.wait(rt, &mut seat.token, number);
+        let Some(state) = self.table.shared.exchange(&mut seat.token, 0, None) else {
             unreachable!()
         };
         seat.count = state.count();
@@ -126,16 +134,16 @@ impl<S: Journalled> Turn<S> {
         requires state { IsPrefix (given seat.old) (S.entries state) × (S.kind state ≡ S.kind (opening self.now)) }
         ensures seat { IsOutsideOf self.now seat.new }
         ensures front { front seat.new ≡ S.entries state }
-        ensures own { own seat.new ≡ own seat.old ++ places (given seat.old) (S.entries state) }
+        ensures own { own seat.new ≡ own seat.old ++ new_places (given seat.old) (S.entries state) }
         ensures same { weight seat.new ≡ weight seat.old }
     {
-        self.mark::<Brand>(&mut seat.place, &state, seat.count);
-        let nothing = self.table.shared.exchange(&mut seat.place, 0, Some(state));
+        self.mark::<Brand>(&mut seat.token, &state, seat.count);
+        let nothing = self.table.shared.exchange(&mut seat.token, 0, Some(state));
         let None = nothing else { unreachable!() };
         let served = self
             .table
             .shared
-            .fetch_add::<PassOn>(&mut seat.place, SERVING, 1);
+            .fetch_add::<PassOn>(&mut seat.token, SERVING, 1);
         seat.count = 0;
         if self.table.shared.peek(TICKET) != served.wrapping_add(1) {
             self.table.shared.wake_all(SERVING);
@@ -152,12 +160,12 @@ impl<S: Journalled> Turn<S> {
         ensures own { own seat.new ≡ own seat.old ++ own other }
     {
         let TurnSeat {
-            place,
+            token,
             weight,
             count: _,
         } = other;
-        self.table.shared.join_seat::<Glue>(&mut seat.place, place);
-        self.table.shared.load::<Meet>(&mut seat.place, COUNT);
+        self.table.shared.join_seat::<Join>(&mut seat.token, token);
+        self.table.shared.load::<Meet>(&mut seat.token, COUNT);
         seat.weight += weight;
     }
 
@@ -167,15 +175,15 @@ impl<S: Journalled> Turn<S> {
         requires whole { weight seat ≡ whole_weight self }
         ensures state { IsPrefix (front seat) (S.entries result) × (S.kind result ≡ S.kind (opening self)) }
         ensures began { IsPrefix (S.entries (opening self)) (S.entries result) }
-        ensures own { (k : ℕ) → times k (own seat) ≡ once (length (S.entries (opening self))) (length (S.entries result)) k }
+        ensures own { AreAllPlaces (length (S.entries (opening self))) (length (S.entries result)) (own seat) }
     {
         let Turn { table } = self;
         let TurnSeat {
-            place,
+            token,
             weight: _,
             count: _,
         } = seat;
-        let mut closed = table.close_with(place);
+        let mut closed = table.close_with(token);
         let state = closed.take(0);
         closed.free();
         let Some(state) = state else { unreachable!() };
@@ -183,15 +191,15 @@ impl<S: Journalled> Turn<S> {
     }
 
     // Waits until the number is served. The seat has the slot then.
-    fn wait<R: Wait + Sync>(&self, rt: &R, place: &mut Place<S>, number: u64)
-        requires turn { (place.old.table_id ≡ self.now.table.shared.table_id) × ((kind : S.Kind) × (place.old.me.0.kind ≡ Some kind)) }
-        requires waits { (t : ℕ) × (place.old.me.0.stage ≡ Waiting t) × (number ≡ t % 2 ^ 64) }
-        ensures turn { place.new.table_id ≡ place.old.table_id }
-        ensures takes { Takes S.entries S.kind place.old.me place.new.me }
+    fn wait<R: Wait + Sync>(&self, rt: &R, token: &mut Token<S>, number: u64)
+        requires turn { (token.old.table_id ≡ self.now.table.shared.table_id) × ((kind : S.Kind) × (token.old.me.0.kind ≡ Some kind)) }
+        requires waits { (t : ℕ) × (token.old.me.0.stage ≡ Waiting t) × (number ≡ t % 2 ^ 64) }
+        ensures turn { token.new.table_id ≡ token.old.table_id }
+        ensures takes { Takes S.entries S.kind token.old.me token.new.me }
     {
         let mut spins = 0u32;
         for _ in rt.forever() {
-            let served = self.table.shared.load::<Look<S>>(place, SERVING);
+            let served = self.table.shared.load::<Look<S>>(token, SERVING);
             if served == number {
                 return;
             }
@@ -206,15 +214,15 @@ impl<S: Journalled> Turn<S> {
     }
 
     // Fixes the new entries of the state, with their places. `before` is the count that `enter` found.
-    fn mark<N: Noted<S::Entry>>(&self, place: &mut Place<S>, state: &S, before: u64)
-        requires turn { (place.old.table_id ≡ self.now.table.shared.table_id) × ((kind : S.Kind) × (place.old.me.0.kind ≡ Some kind)) }
-        requires served { (is_inside place.old.me.0.stage ≡ true) × (before ≡ length (log_of place.old.me.0.stage)) }
-        requires state { IsPrefix (log_of place.old.me.0.stage) (S.entries state.now) × (N.list ≡ S.entries state.now) }
-        ensures turn { place.new.table_id ≡ place.old.table_id }
-        ensures marks { place.new.me ≡ (with_list place.old.me.0 (S.entries state.now), place.old.me.1) }
+    fn mark<N: MarkedList<S::Entry>>(&self, token: &mut Token<S>, state: &S, before: u64)
+        requires turn { (token.old.table_id ≡ self.now.table.shared.table_id) × ((kind : S.Kind) × (token.old.me.0.kind ≡ Some kind)) }
+        requires served { (is_inside token.old.me.0.stage ≡ true) × (before ≡ length (log_of token.old.me.0.stage)) }
+        requires state { IsPrefix (log_of token.old.me.0.stage) (S.entries state.now) × (N.list ≡ S.entries state.now) }
+        ensures turn { token.new.table_id ≡ token.old.table_id }
+        ensures marks { token.new.me ≡ (with_list token.old.me.0 (S.entries state.now), token.old.me.1) }
     {
         let fresh = state.count() - before;
-        self.table.shared.fetch_add::<Mark<N>>(place, COUNT, fresh);
+        self.table.shared.fetch_add::<Mark<N>>(token, COUNT, fresh);
     }
 }
 

@@ -1,5 +1,5 @@
 use Rattle.std.proofs.Common.{rules, ap, ◌∙◌}
-use Rattle.turn_lock.proofs.Keeps.{draws, has_slot}
+use Rattle.turn_lock.proofs.WordSteps.{draws, has_slot}
 use Rattle.turn_lock.proofs.turn.Turn.enter.Goals as goal
 
 pub fetch_add-number-requires : goal.fetch_add-number-requires

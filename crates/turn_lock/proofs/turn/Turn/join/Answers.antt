@@ -1,5 +1,5 @@
 use Rattle.std.proofs.Common.{rules, ap, ◌∙◌}
-use Rattle.turn_lock.proofs.Parts.{joins, meets}
+use Rattle.turn_lock.proofs.SeatSteps.{joins, meets}
 use Rattle.turn_lock.proofs.turn.Turn.join.Goals as goal
 
 pub join_seat-requires : goal.join_seat-requires

@@ -1,6 +1,6 @@
 use Rattle.std.proofs.Common.{arith, rules, ap, sym, ◌∙◌}
 use lib.ListN.{length}
-use Rattle.turn_lock.proofs.Parts.{opens}
+use Rattle.turn_lock.proofs.SeatSteps.{opens}
 use Rattle.turn_lock.proofs.turn.Turn.new.Goals as goal
 
 pub new-requires : goal.new-requires

@@ -1,5 +1,5 @@
 use Rattle.std.proofs.Common.{rules, ap, ◌∙◌}
-use Rattle.turn_lock.proofs.Keeps.{looks}
+use Rattle.turn_lock.proofs.WordSteps.{looks}
 use Rattle.turn_lock.proofs.turn.Turn.wait.Goals as goal
 
 pub load-served-requires : goal.load-served-requires

@@ -1,6 +1,6 @@
 use Rattle.std.proofs.Common.{◌≡◌}
 use Rattle.turn_lock.specs.Seats.{IsOutsideOf, weight}
-use Rattle.turn_lock.proofs.tests.append_often.Given as goal
+use Rattle.turn_lock.proofs.turn.tests.append_often.Given as goal
 
 abbrev pub invariant-loop : goal.invariant-loop
 invariant-loop g l = IsOutsideOf l.turn l.seat × (weight l.seat ≡ weight l.initial.seat)

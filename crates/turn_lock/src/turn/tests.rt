@@ -3,12 +3,15 @@ ghost use Rattle.std.specs.Thread.{IsSync};
 ghost use mathlib.Core.List.{IsPrefix};
 ghost use Rattle.turn_lock.specs.Seats.{IsOutsideOf, weight, whole_weight};
 
+use super::SERVING;
 use crate::{Journalled, Turn, TurnSeat};
 use std::alloc::{AllocError, Global};
 use std::process::Abort;
 use std::sync::Wait;
+use std::sync::atomic::{AtomicU64, Ordering};
 use std::test::Fail;
-use std::thread::{Threads, join};
+use std::thread::{self, Threads, join};
+use std::time::{Clock, Duration};
 
 /// A list of numbers.
 #[derive(Drop)]
@@ -60,12 +63,12 @@ fn append_often<R: Wait + Sync>(
     turn: &Turn<Numbers>,
     mut seat: TurnSeat<Numbers>,
     number: u64,
-    times: u32,
+    rounds: u32,
 ) -> TurnSeat<Numbers>
     requires { IsOutsideOf turn.now seat }
     ensures { IsOutsideOf turn.now result × (weight result ≡ weight seat) }
 {
-    for _ in 0..times {
+    for _ in 0..rounds {
         append(rt, turn, &mut seat, number);
     }
     seat
@@ -131,7 +134,7 @@ fn pair(turn: &Turn<Numbers>, seat: &mut TurnSeat<Numbers>) -> TurnSeat<Numbers>
 }
 
 // In each of 25 rounds the seat is cut in two, both add the number, and they are joined again.
-fn cut_and_join<R: Wait + Sync>(
+fn split_and_join<R: Wait + Sync>(
     rt: &R,
     turn: &Turn<Numbers>,
     mut seat: TurnSeat<Numbers>,
@@ -149,7 +152,7 @@ fn cut_and_join<R: Wait + Sync>(
     seat
 }
 
-fn both_cut_and_join<R: Threads + Wait + Sync>(
+fn both_split_and_join<R: Threads + Wait + Sync>(
     rt: &R,
     turn: &Turn<Numbers>,
     first: TurnSeat<Numbers>,
@@ -166,11 +169,11 @@ fn both_cut_and_join<R: Threads + Wait + Sync>(
         || -> TurnSeat<Numbers>
             requires { IsOutsideOf turn.now first × (weight first ≡ 2) }
             ensures { IsOutsideOf turn.entry.now result × (weight result ≡ 2) }
-        { cut_and_join(rt, turn, first, number) },
+        { split_and_join(rt, turn, first, number) },
         || -> TurnSeat<Numbers>
             requires { IsOutsideOf turn.now second × (weight second ≡ 2) × (number < 2 ^ 8) }
             ensures { IsOutsideOf turn.entry.now result × (weight result ≡ 2) }
-        { cut_and_join(rt, turn, second, number + 1) },
+        { split_and_join(rt, turn, second, number + 1) },
     );
     turn.join(&mut first, second);
     first
@@ -190,23 +193,155 @@ fn appended_by_four<R: Threads + Wait + Sync>(
         || -> TurnSeat<Numbers>
             requires { IsSync R.row × IsOutsideOf lent.now a × (weight a ≡ 2) × IsOutsideOf lent.now b × (weight b ≡ 2) }
             ensures { IsOutsideOf lent.entry.now result × (weight result ≡ 4) }
-        { both_cut_and_join(rt, lent, a, b, 0) },
+        { both_split_and_join(rt, lent, a, b, 0) },
         || -> TurnSeat<Numbers>
             requires { IsSync R.row × IsOutsideOf lent.now c × (weight c ≡ 2) × IsOutsideOf lent.now d × (weight d ≡ 2) }
             ensures { IsOutsideOf lent.entry.now result × (weight result ≡ 4) }
-        { both_cut_and_join(rt, lent, c, d, 2) },
+        { both_split_and_join(rt, lent, c, d, 2) },
     );
     turn.join(&mut first, second);
     Ok(turn.close(first))
 }
 
 #[test]
-fn four_threads_cut_and_join(rt: HostRuntime) -> Result<(), Fail> {
+fn four_threads_split_and_join(rt: HostRuntime) -> Result<(), Fail> {
     let numbers = appended_by_four(&rt, rt.alloc())?;
     let all = numbers.list.as_slice();
     assert!(rt; all.len() == 200);
     for number in 0..4u64 {
         assert!(rt; all.iter().filter(|n| **n == number).count() == 50);
+    }
+    Ok(())
+}
+
+// How often one seat holds the turn while another waits, and for how many milliseconds.
+const HOLDS: u64 = 40;
+
+const HOLD: u64 = 5;
+
+// How many milliseconds the other seat has to enter, once the turn was left.
+const PATIENCE: u64 = 5_000;
+
+// The round in which the turn is held, and the last in which the other seat was served.
+#[derive(Drop)]
+struct Rounds {
+    held: AtomicU64,
+    served: AtomicU64,
+}
+
+impl Rounds {
+    // Whether the other seat is served in time.
+    fn is_served<C: Clock>(&self, clock: &C, round: u64) -> bool {
+        for _ in 0..PATIENCE {
+            if self.served.load(Ordering::SeqCst) >= round {
+                return true;
+            }
+            thread::sleep(clock, Duration::from_millis(1));
+        }
+        false
+    }
+
+    // Wakes the other seat until it is served.
+    fn wake<R: Wait + Clock>(&self, rt: &R, turn: &Turn<Numbers>, round: u64) {
+        for _ in rt.forever() {
+            if self.served.load(Ordering::SeqCst) >= round {
+                return;
+            }
+            turn.table.shared.wake_all(SERVING);
+            thread::sleep(rt, Duration::from_millis(1));
+        }
+    }
+
+    // Holds the turn in each round for longer than a waiting seat spins, and says whether each leave woke the other.
+    fn hold<R: Wait + Clock + Sync>(
+        &self,
+        rt: &R,
+        turn: &Turn<Numbers>,
+        mut seat: TurnSeat<Numbers>,
+    ) -> (TurnSeat<Numbers>, bool)
+        requires { IsOutsideOf turn.now seat }
+        ensures { IsOutsideOf turn.now result.0 × (weight result.0 ≡ weight seat) }
+    {
+        let mut woken = true;
+        for round in 1..=HOLDS {
+            let mut numbers = turn.enter(rt, &mut seat);
+            self.held.store(round, Ordering::SeqCst);
+            thread::sleep(rt, Duration::from_millis(HOLD));
+            numbers.add(1);
+            turn.leave(&mut seat, numbers);
+            woken = woken && self.is_served(rt, round);
+            if !woken {
+                self.wake(rt, turn, round);
+            }
+        }
+        (seat, woken)
+    }
+
+    // Asks for the turn in each round while it is held.
+    fn ask<R: Wait + Sync>(
+        &self,
+        rt: &R,
+        turn: &Turn<Numbers>,
+        mut seat: TurnSeat<Numbers>,
+    ) -> TurnSeat<Numbers>
+        requires { IsOutsideOf turn.now seat }
+        ensures { IsOutsideOf turn.now result × (weight result ≡ weight seat) }
+    {
+        for round in 1..=HOLDS {
+            self.await_held(rt, round);
+            append(rt, turn, &mut seat, 2);
+            self.served.store(round, Ordering::SeqCst);
+        }
+        seat
+    }
+
+    fn await_held<R: Wait>(&self, rt: &R, round: u64) {
+        for _ in rt.forever() {
+            if self.held.load(Ordering::SeqCst) >= round {
+                return;
+            }
+            thread::yield_now();
+        }
+    }
+}
+
+// The numbers in the order in which they came, and whether each waiting seat was woken.
+fn held_while_asked<R: Threads + Wait + Clock + Sync>(
+    rt: &R,
+    alloc: Global,
+) -> Result<(Numbers, bool), AllocError> {
+    let room = usize::try_from(2 * HOLDS).unwrap_or(0);
+    let (turn, mut first) = Turn::new(alloc, Numbers::with_room(alloc, room)?, 2)?;
+    let second = turn.split(&mut first);
+    let rounds = Rounds {
+        held: AtomicU64::new(0),
+        served: AtomicU64::new(0),
+    };
+    let lent = &turn;
+    let all = &rounds;
+    let ((mut first, woken), second) = join(
+        rt,
+        || -> (TurnSeat<Numbers>, bool)
+            requires { IsOutsideOf lent.now first }
+            ensures { IsOutsideOf lent.entry.now result.0 × (weight result.0 ≡ weight first) }
+        { all.hold(rt, lent, first) },
+        || -> TurnSeat<Numbers>
+            requires { IsOutsideOf lent.now second }
+            ensures { IsOutsideOf lent.entry.now result × (weight result ≡ weight second) }
+        { all.ask(rt, lent, second) },
+    );
+    turn.join(&mut first, second);
+    Ok((turn.close(first), woken))
+}
+
+#[test]
+fn a_seat_that_sleeps_is_woken(rt: HostRuntime) -> Result<(), Fail> {
+    let (numbers, woken) = held_while_asked(&rt, rt.alloc())?;
+    assert!(rt; woken);
+    let all = numbers.list.as_slice();
+    assert!(rt; all.len() == 80);
+    for (i, number) in all.iter().enumerate() {
+        assert!(rt; *number == if i % 2 == 0 { 1 } else { 2 });
     }
     Ok(())
 }

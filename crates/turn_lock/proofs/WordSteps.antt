@@ -1,5 +1,6 @@
--- Each step of a turn keeps its rule.
-use Rattle.std.proofs.Common.{◌≡◌, ◌≢◌, ◌⊎◌, ℕ, ◌+◌, ◌-◌, ◌%◌, ◌^◌, ◌<◌, ◌≤◌, ◌==◌, true, cond, Option, Some, None, List, [], ◌∷◌, length, get_or, set, refl, ap, sym, ◌∙◌, subst, inl, inr, ⊎_elim, arith}
+-- Each step on a word keeps the rule: draw, look, mark and pass on.
+use Rattle.std.proofs.Common.{◌≡◌, ◌≢◌, ◌⊎◌, ℕ, ◌+◌, ◌-◌, ◌%◌, ◌^◌, ◌<◌, ◌≤◌, ◌==◌, true, cond, Option, Some, None, List, [], ◌∷◌}
+use Rattle.std.proofs.Common.{length, get_or, set, refl, ap, sym, ◌∙◌, subst, inl, inr, ⊎_elim, arith}
 use Rattle.std.proofs.lemmas.Bool.Decides.{nat_tests}
 use mathlib.Core.Logic.{dite}
 use mathlib.Core.Option.{Option as Maybe, none, some}
@@ -8,46 +9,19 @@ use native.Mathlib.Decide.{ℕ_discrete}
 use lib.ListN.{get_elem?}
 use lib.Seq.{set-get_or}
 use Rattle.atomic_table.specs.Table.{State, Me, step, keeps, takes, gives, put_back, rest, stepped, Allows}
-use Rattle.atomic_table.proofs.Lists.{at_set, set_again, one_turn}
+use Rattle.atomic_table.proofs.Lists.{set_again, one_turn}
 use Rattle.turn_lock.specs.declared.rule.View.{View}
 use Rattle.turn_lock.specs.declared.rule.Stage.{Stage}
 use Rattle.turn_lock.specs.declared.rule.Stage.TheVariants.{Outside, Waiting, Served}
-use Rattle.turn_lock.specs.Rule.{total, times, once, is_out, is_served, has_ticket, Knows, spent, Sits, out, weight_of_all, is_home, Lies, Kept}
-use Rattle.turn_lock.specs.Steps.{ticket_of, log_of, places, at_stage, with_list, back_outside, drawn, looked, marked, passed}
+use Rattle.turn_lock.specs.declared.limits.TheConstants.{MAX_SEATS}
+use Rattle.turn_lock.specs.Rule.{occurrences, one_between, weight_of_all, is_out, is_served, has_ticket, spent, IsSeated, is_home, HoldsState, ObeysRule}
+use Rattle.turn_lock.specs.Steps.{ticket_of, log_of, new_places, at_stage, with_list, back_outside, drawn, looked, marked, passed}
 use Rattle.turn_lock.specs.Steps.{is_inside, holding}
 use Rattle.turn_lock.proofs.Prefixes.{prefix_same, prefix_on, prefix_le}
-use Rattle.turn_lock.proofs.Totals.{total_set, total_member, total_two, total_le, total_le_at, times_append, times_range, once_beside, once_le, once_inside}
-
-module _ {V : Type 0} where
-  -- what holds of the changed view and of each other one holds of all
-  pub set_each : (P : V → Type 0) (vs : List V) (id : ℕ) (w : V) → P w → ((j : ℕ) (d : V) → j ≢ id → get_elem? vs j ≡ some d → P d) → (j : ℕ) (d : V) → get_elem? (set vs id w) j ≡ some d → P d
-  set_each P vs id w mine others j d e = ⊎_elim (λ (t : (j ≡ id) × (w ≡ d)). subst P t.1 mine) (λ (t : (j ≢ id) × (get_elem? vs j ≡ some d)). others j d t.0 t.1) (at_set vs id j w d e)
-
-  pub total_same : (f : V → ℕ) (vs : List V) (id : ℕ) (v w : V) → get_elem? vs id ≡ some v → f w ≡ f v → total f (set vs id w) ≡ total f vs
-  total_same f vs id v w at e = let t = total_set f vs id v w at in omega arith
-
-module _ {E : Type 0} where
-  pub knows_unserved : (serving : ℕ) (log : List E) (st : Stage E) → is_served st ≡ 0 → Knows serving log st
-  knows_unserved serving log Outside e = tt
-  knows_unserved serving log (Waiting n) e = tt
-  knows_unserved serving log (Served n l) e = absurd (omega arith)
-
-  pub served_has_ticket : (serving : ℕ) (log : List E) (st : Stage E) → Knows serving log st → is_served st ≤ has_ticket serving st
-  served_has_ticket serving log Outside k = omega arith
-  served_has_ticket serving log (Waiting n) k = grind (arith, nat_tests)
-  served_has_ticket serving log (Served n l) k = let e = k.0 in grind (arith, nat_tests)
-
-  pub out_le : (st : Stage E) → is_out st ≤ 1
-  out_le Outside = omega arith
-  out_le (Waiting n) = omega arith
-  out_le (Served n l) = omega arith
-
-  -- a seat inside is served, with the ticket that is served, and knows the list
-  pub inside_knows : (serving : ℕ) (log : List E) (st : Stage E) → is_inside st ≡ true → Knows serving log st
-      → (ticket_of st ≡ serving) × (log_of st ≡ log) × (is_served st ≡ 1) × (is_out st ≡ 1) × ((n : ℕ) → has_ticket n st ≡ cond (ticket_of st == n) 1 0)
-  inside_knows serving log Outside e k = absurd cc
-  inside_knows serving log (Waiting n) e k = absurd cc
-  inside_knows serving log (Served n l) e k = (k.0, k.1, refl, refl, λ _. refl)
+use Rattle.turn_lock.proofs.RuleLemmas.{set_each, total_same, knows_unserved, served_has_ticket, inside_knows, Known, seated, few_out, at_home}
+use Rattle.turn_lock.proofs.RuleLemmas.{read_keeps}
+use Rattle.turn_lock.proofs.Totals.{total_set, total_member, total_two, total_le_at, occurrences_append, occurrences_range}
+use Rattle.turn_lock.proofs.Totals.{one_between_beside, one_between_le, one_between_inside}
 
 module _ {S E K : Type 0} (entries : S → List E) (kind : S → K) (op : S) (seats : ℕ) where
   abbrev V : Type 0
@@ -60,19 +34,10 @@ module _ {S E K : Type 0} (entries : S → List E) (kind : S → K) (op : S) (se
   M = Me (Option S) V
 
   abbrev Rule : St → Type 0
-  Rule = Kept entries kind op seats
+  Rule = ObeysRule entries kind op seats
 
-  -- a seat with a kind isn't spent
-  pub seated : (log : List E) (serving : ℕ) (v : V) (k : K) → v.kind ≡ Some k → (v ≡ spent) ⊎ Sits log (kind op) serving v → Sits log (kind op) serving v
-  seated log serving v k is known = ⊎_elim (λ (e : v ≡ spent). let c : v.kind ≡ None = ap (λ (u : V). u.kind) e in absurd cc) (λ s. s) known
-
-  out_below : (log : List E) (serving : ℕ) (v : V) → (v ≡ spent) ⊎ Sits log (kind op) serving v → is_out v.stage ≤ v.weight
-  out_below log serving v known =
-      ⊎_elim (λ (e : v ≡ spent). subst (λ (u : V). is_out u.stage ≤ u.weight) (sym e) (omega arith)) (λ (s : Sits log (kind op) serving v). let a = s.weight in let b = out_le v.stage in omega arith) known
-
-  -- no more seats are out than the weight allows
-  few_out : (log : List E) (serving : ℕ) (vs : List V) → ((i : ℕ) (v : V) → get_elem? vs i ≡ some v → (v ≡ spent) ⊎ Sits log (kind op) serving v) → weight_of_all vs ≡ seats → seats ≤ 64 → out vs ≤ 64
-  few_out log serving vs each all few = let t = total_le (λ (v : V). is_out v.stage) (λ (v : V). v.weight) vs (λ i v e. out_below log serving v (each i v e)) in omega arith
+  abbrev Rightly : List E → ℕ → V → Type 0
+  Rightly = Known entries kind op seats
 
   word : (s : St) (r : Rule s) (n : ℕ) → (ws : List ℕ) → ws ≡ length r.log ∷ r.ticket % 2 ^ 64 ∷ r.serving % 2 ^ 64 ∷ [] → get_or s.words n 0 ≡ get_or ws n 0
   word s r n ws e = ap (λ (l : List ℕ). get_or l n 0) (r.words ∙ sym e)
@@ -83,8 +48,8 @@ module _ {S E K : Type 0} (entries : S → List E) (kind : S → K) (op : S) (se
   pub draws : (slots id : ℕ) (me : M) (k : K) → me.0.stage ≡ Outside → me.0.kind ≡ Some k → Allows Rule slots id me 1 (λ n. (n + 1) % 2 ^ 64) (drawn (step slots 1 1 0 none) me)
   draws slots id me k outside is s r wide at small =
       let v : V = me.0 in let t : ℕ = r.ticket in let w : V = at_stage v (Waiting t) in
-      let mine = seated r.log r.serving v k is (r.each_seat id v at) in
-      let each = set_each (λ (d : V). (d ≡ spent) ⊎ Sits r.log (kind op) r.serving d) s.views id w
+      let mine = seated entries kind op seats r.log r.serving v k is (r.each_seat id v at) in
+      let each = set_each (Rightly r.log r.serving) s.views id w
       (inr record { stage = tt; weight = mine.weight; front = mine.front; other = mine.other; kind = mine.kind }) (λ j d _ e. r.each_seat j d e) in
       let all : weight_of_all (set s.views id w) ≡ seats = total_same (λ (d : V). d.weight) s.views id v w at refl ∙ r.weights in
       let was_out : is_out v.stage ≡ 0 = ap is_out outside in
@@ -104,11 +69,11 @@ module _ {S E K : Type 0} (entries : S → List E) (kind : S → K) (op : S) (se
           tickets = λ n. let had : has_ticket n v.stage ≡ 0 = ap (has_ticket n) outside in
               let c = total_set (λ (d : V). has_ticket n d.stage) s.views id v w at in let b = r.tickets n in grind (arith, nat_tests);
           as_many = omega arith;
-          at_most = few_out r.log r.serving (set s.views id w) each all r.few;
+          at_most = few_out entries kind op seats r.log r.serving (set s.views id w) each all r.few;
           one_served = ap (λ n. n + is_home r.home) (total_same (λ (d : V). is_served d.stage) s.views id v w at (sym was_served)) ∙ r.one_served;
           slot = r.slot;
           began = r.began;
-          owned = λ n. total_same (λ (d : V). times n d.own) s.views id v w at refl ∙ r.owned n;
+          owned = λ n. total_same (λ (d : V). occurrences n d.own) s.views id v w at refl ∙ r.owned n;
           weights = all;
           few = r.few;
           each_seat = each;
@@ -116,28 +81,26 @@ module _ {S E K : Type 0} (entries : S → List E) (kind : S → K) (op : S) (se
         (t, word s r 1 _ refl, refl),
       )
 
-  pub at_home : (log : List E) (of : K) (h : Maybe (Option S)) → is_home h ≡ 1 → Lies entries kind log of h → (x : S) × (h ≡ some (Some x)) × (entries x ≡ log) × (kind x ≡ of)
-  at_home log of none e l = absurd (omega arith)
-  at_home log of (some None) e l = absurd l
-  at_home log of (some (Some x)) e l = (x, refl, l.0, l.1)
-
   knows_all : (s : St) (r : Rule s) (j : ℕ) (d : V) → get_elem? s.views j ≡ some d → is_served d.stage ≤ has_ticket r.serving d.stage
   knows_all s r j d e = ⊎_elim (λ (p : d ≡ spent). subst (λ (u : V). is_served u.stage ≤ has_ticket r.serving u.stage) (sym p) (omega arith))
-      (λ (t : Sits r.log (kind op) r.serving d). served_has_ticket r.serving r.log d.stage t.stage) (r.each_seat j d e)
+      (λ (t : IsSeated r.log (kind op) r.serving d). served_has_ticket r.serving r.log d.stage t.stage) (r.each_seat j d e)
 
   -- the seat that finds its own number has the ticket that is served
   own_number : (s : St) (r : Rule s) (id : ℕ) (v : V) (t : ℕ) → get_elem? s.views id ≡ some v → has_ticket t v.stage ≡ 1 → r.serving % 2 ^ 64 ≡ t % 2 ^ 64 → r.serving ≡ t
   own_number s r id v t at has e = let m = total_member (λ (d : V). has_ticket t d.stage) s.views id v at in let b = r.tickets t in
-      let i = once_inside r.serving r.ticket t (omega arith) in let lo = i.0 in let hi = i.1 in let c = r.as_many in let a = r.at_most in
+      let i = one_between_inside r.serving r.ticket t (omega arith) in let lo = i.0 in let hi = i.1 in let c = r.as_many in let a = r.at_most in
       one_turn r.serving t (2 ^ 64) lo (omega arith) e
 
   -- then no seat is served yet
   is_free : (s : St) (r : Rule s) (id : ℕ) (v : V) → get_elem? s.views id ≡ some v → has_ticket r.serving v.stage ≡ 1 → is_served v.stage ≡ 0 → is_home r.home ≡ 1
   is_free s r id v at has not = let m = total_le_at (λ (d : V). is_served d.stage) (λ (d : V). has_ticket r.serving d.stage) s.views id v at (knows_all s r) in
-      let b = r.tickets r.serving in let c = once_le r.serving r.ticket r.serving in let o = r.one_served in omega arith
+      let b = r.tickets r.serving in let c = one_between_le r.serving r.ticket r.serving in let o = r.one_served in omega arith
 
-  unchanged : (s : St) (r : Rule s) (i id : ℕ) (v : V) (c : List (ℕ × Option S)) → get_elem? s.views id ≡ some v → Rule (stepped s i (get_or s.words i 0) id c v keeps)
-  unchanged s r i id v c at = subst (λ (p : List ℕ × List V). Rule record { words = p.0; homes = s.homes; views = p.1 }) (λ j. (sym (set-get_or s.words i 0) j, sym (set_again s.views id v at) j)) r
+  unchanged : (s : St) (r : Rule s) (i id : ℕ) (v : V) (c : List (ℕ × Option S)) → get_elem? s.views id ≡ some v
+      → Rule (stepped s i (get_or s.words i 0) id c v keeps)
+  unchanged s r i id v c at =
+      read_keeps entries kind op seats s i (set s.views id v)
+      (subst (λ (vs : List V). Rule record { words = s.words; homes = s.homes; views = vs }) (sym (set_again s.views id v at)) r)
 
   takes_slot : (s : St) (r : Rule s) (id : ℕ) (me : M) (t : ℕ) (k : K) (x : S) → me.0.stage ≡ Waiting t → me.0.kind ≡ Some k → get_elem? s.views id ≡ some me.0
       → r.serving ≡ t → r.home ≡ some (Some x) → entries x ≡ r.log
@@ -145,7 +108,7 @@ module _ {S E K : Type 0} (entries : S → List E) (kind : S → K) (op : S) (se
   takes_slot s r id me t k x waits is at e home log =
       let v : V = me.0 in let st : Stage E = Served (ticket_of v.stage) (entries x) in let w : V = at_stage v st in
       let own : ticket_of v.stage ≡ t = ap ticket_of waits in
-      let mine = seated r.log r.serving v k is (r.each_seat id v at) in
+      let mine = seated entries kind op seats r.log r.serving v k is (r.each_seat id v at) in
       let was_served : is_served v.stage ≡ 0 = ap is_served waits in
       let was_out : is_out v.stage ≡ 1 = ap is_out waits in
       let here : is_home r.home ≡ 1 = ap is_home home in
@@ -160,14 +123,14 @@ module _ {S E K : Type 0} (entries : S → List E) (kind : S → K) (op : S) (se
         homes = ap (λ (l : List (Maybe (Option S))). set l 0 none) r.homes;
         tickets = λ n. total_same (λ (d : V). has_ticket n d.stage) s.views id v w at (ap (λ (m : ℕ). cond (m == n) 1 0) own ∙ sym (ap (has_ticket n) waits)) ∙ r.tickets n;
         as_many = ap (λ (n : ℕ). r.serving + n) (total_same (λ (d : V). is_out d.stage) s.views id v w at (sym was_out)) ∙ r.as_many;
-        at_most = subst (λ (n : ℕ). n ≤ 64) (sym (total_same (λ (d : V). is_out d.stage) s.views id v w at (sym was_out))) r.at_most;
+        at_most = subst (λ (n : ℕ). n ≤ MAX_SEATS) (sym (total_same (λ (d : V). is_out d.stage) s.views id v w at (sym was_out))) r.at_most;
         one_served = omega arith;
         slot = tt;
         began = r.began;
-        owned = λ n. total_same (λ (d : V). times n d.own) s.views id v w at refl ∙ r.owned n;
+        owned = λ n. total_same (λ (d : V). occurrences n d.own) s.views id v w at refl ∙ r.owned n;
         weights = total_same (λ (d : V). d.weight) s.views id v w at refl ∙ r.weights;
         few = r.few;
-        each_seat = set_each (λ (d : V). (d ≡ spent) ⊎ Sits r.log (kind op) r.serving d) s.views id w
+        each_seat = set_each (Rightly r.log r.serving) s.views id w
             (inr record { stage = (own ∙ sym e, log); weight = mine.weight; front = mine.front; other = mine.other; kind = mine.kind }) (λ j d _ q. r.each_seat j d q);
       }
 
@@ -178,7 +141,7 @@ module _ {S E K : Type 0} (entries : S → List E) (kind : S → K) (op : S) (se
       let has : has_ticket t v.stage ≡ 1 = ap (has_ticket t) waits ∙ grind (arith, nat_tests) in
       let e = own_number s r id v t at has same in
       let free = is_free s r id v at (subst (λ (n : ℕ). has_ticket n v.stage ≡ 1) (sym e) has) (ap is_served waits) in
-      let h = at_home r.log (kind op) r.home free r.slot in (h.0, h.1, h.2, h.3, e)
+      let h = at_home entries kind op seats r.log (kind op) r.home free r.slot in (h.0, h.1, h.2, h.3, e)
 
   pub looks : (slots id : ℕ) (me : M) (t : ℕ) (k : K) → me.0.stage ≡ Waiting t → me.0.kind ≡ Some k → Allows Rule slots id me 2 (λ n. n) (looked entries kind (step slots 2 0 0 none) me)
   looks slots id me t k waits is s r wide at small =
@@ -187,7 +150,7 @@ module _ {S E K : Type 0} (entries : S → List E) (kind : S → K) (op : S) (se
       dite (ℕ_discrete (get_or s.words 2 0) (ticket_of v.stage % 2 ^ 64))
       (λ hit.
       let h = finds s r id v t waits at (sym found ∙ (hit ∙ ap (λ (n : ℕ). n % 2 ^ 64) own)) in
-      let mine = seated r.log r.serving v k is (r.each_seat id v at) in (
+      let mine = seated entries kind op seats r.log r.serving v k is (r.each_seat id v at) in (
         at_stage v (Served (ticket_of v.stage) (entries h.0)),
         takes 0 (Some h.0),
         ap (λ (l : List (Maybe (Option S))). get_elem? l 0) r.homes ∙ ap some h.1,
@@ -203,13 +166,13 @@ module _ {S E K : Type 0} (entries : S → List E) (kind : S → K) (op : S) (se
   is_away : (s : St) (r : Rule s) (id : ℕ) (v : V) → get_elem? s.views id ≡ some v → is_served v.stage ≡ 1 → is_home r.home ≡ 0
   is_away s r id v at one = let t = total_member (λ (u : V). is_served u.stage) s.views id v at in let o = r.one_served in omega arith
 
-  lies_away : (log : List E) (of : K) (h : Maybe (Option S)) → is_home h ≡ 0 → Lies entries kind log of h
-  lies_away log of none e = tt
-  lies_away log of (some x) e = absurd (omega arith)
+  holds_away : (log : List E) (of : K) (h : Maybe (Option S)) → is_home h ≡ 0 → HoldsState entries kind log of h
+  holds_away log of none e = tt
+  holds_away log of (some x) e = absurd (omega arith)
 
   -- a seat that is not served, where the list grows or another is served
-  sits_on : (log list : List E) (serving serving' : ℕ) (d : V) → IsPrefix log list → is_served d.stage ≡ 0 → (d ≡ spent) ⊎ Sits log (kind op) serving d → (d ≡ spent) ⊎ Sits list (kind op) serving' d
-  sits_on log list serving serving' d longer not known = ⊎_elim (λ (e : d ≡ spent). inl e) (λ (t : Sits log (kind op) serving d). inr record {
+  seated_on : (log list : List E) (serving serving' : ℕ) (d : V) → IsPrefix log list → is_served d.stage ≡ 0 → Rightly log serving d → Rightly list serving' d
+  seated_on log list serving serving' d longer not known = ⊎_elim (λ (e : d ≡ spent). inl e) (λ (t : IsSeated log (kind op) serving d). inr record {
     stage = knows_unserved serving' list d.stage not;
     weight = t.weight;
     front = prefix_on d.front log list t.front longer;
@@ -221,7 +184,7 @@ module _ {S E K : Type 0} (entries : S → List E) (kind : S → K) (op : S) (se
       → length (log_of me.0.stage) + fresh ≡ length list → length list < 2 ^ 64 → Allows Rule slots id me 0 (λ n. (n + fresh) % 2 ^ 64) (marked list (step slots 0 fresh 0 none) me)
   marks slots id me k list fresh inside is longer adds fits s r wide at small =
       let v : V = me.0 in let before : List E = log_of v.stage in let w : V = with_list v list in
-      let mine = seated r.log r.serving v k is (r.each_seat id v at) in
+      let mine = seated entries kind op seats r.log r.serving v k is (r.each_seat id v at) in
       let knows = inside_knows r.serving r.log v.stage inside mine.stage in
       let log : before ≡ r.log = knows.1 in let one : is_served v.stage ≡ 1 = knows.2 in
       let size : length before ≡ length r.log = ap length log in
@@ -240,18 +203,18 @@ module _ {S E K : Type 0} (entries : S → List E) (kind : S → K) (op : S) (se
           homes = r.homes;
           tickets = λ n. total_same (λ (d : V). has_ticket n d.stage) s.views id v w at (sym (knows.4 n)) ∙ r.tickets n;
           as_many = ap (λ (n : ℕ). r.serving + n) (total_same (λ (d : V). is_out d.stage) s.views id v w at (sym knows.3)) ∙ r.as_many;
-          at_most = subst (λ (n : ℕ). n ≤ 64) (sym (total_same (λ (d : V). is_out d.stage) s.views id v w at (sym knows.3))) r.at_most;
+          at_most = subst (λ (n : ℕ). n ≤ MAX_SEATS) (sym (total_same (λ (d : V). is_out d.stage) s.views id v w at (sym knows.3))) r.at_most;
           one_served = ap (λ n. n + is_home r.home) (total_same (λ (d : V). is_served d.stage) s.views id v w at (sym one)) ∙ r.one_served;
-          slot = lies_away list (kind op) r.home (is_away s r id v at one);
+          slot = holds_away list (kind op) r.home (is_away s r id v at one);
           began = prefix_on (entries op) r.log list began longer';
-          owned = λ n. let t = total_set (λ (d : V). times n d.own) s.views id v w at in let b = r.owned n in
-              let a = times_append n v.own (places before list) in let c = times_range n (length before) (length list - length before) in
+          owned = λ n. let t = total_set (λ (d : V). occurrences n d.own) s.views id v w at in let b = r.owned n in
+              let a = occurrences_append n v.own (new_places before list) in let c = occurrences_range n (length before) (length list - length before) in
               let end : length before + (length list - length before) ≡ length list = omega arith in
-              let c' : times n (places before list) ≡ once (length r.log) (length list) n = c ∙ (λ i. once (size i) (end i) n) in
-              let o = once_beside (length (entries op)) (length r.log) (length list) n start (omega arith) in omega arith;
+              let c' : occurrences n (new_places before list) ≡ one_between (length r.log) (length list) n = c ∙ (λ i. one_between (size i) (end i) n) in
+              let o = one_between_beside (length (entries op)) (length r.log) (length list) n start (omega arith) in omega arith;
           weights = total_same (λ (d : V). d.weight) s.views id v w at refl ∙ r.weights;
           few = r.few;
-          each_seat = set_each (λ (d : V). (d ≡ spent) ⊎ Sits list (kind op) r.serving d) s.views id w
+          each_seat = set_each (Rightly list r.serving) s.views id w
               (inr record {
                 stage = (knows.0, refl);
                 weight = mine.weight;
@@ -259,7 +222,7 @@ module _ {S E K : Type 0} (entries : S → List E) (kind : S → K) (op : S) (se
                 other = prefix_on v.other r.log list mine.other longer';
                 kind = mine.kind;
               })
-              (λ j d n e. sits_on r.log list r.serving r.serving d longer' (others_unserved s r id v at one j d n e) (r.each_seat j d e));
+              (λ j d n e. seated_on r.log list r.serving r.serving d longer' (others_unserved s r id v at one j d n e) (r.each_seat j d e));
         },
         refl,
       )
@@ -268,7 +231,7 @@ module _ {S E K : Type 0} (entries : S → List E) (kind : S → K) (op : S) (se
       → Allows Rule slots id me 2 (λ n. (n + 1) % 2 ^ 64) (passed (step slots 2 1 0 none) me)
   passes slots id me k x inside is held has of s r wide at small =
       let v : V = me.0 in let w : V = back_outside v in
-      let mine = seated r.log r.serving v k is (r.each_seat id v at) in
+      let mine = seated entries kind op seats r.log r.serving v k is (r.each_seat id v at) in
       let knows = inside_knows r.serving r.log v.stage inside mine.stage in
       let log : log_of v.stage ≡ r.log = knows.1 in let one : is_served v.stage ≡ 1 = knows.2 in let was_out : is_out v.stage ≡ 1 = knows.3 in
       let o = total_set (λ (d : V). is_out d.stage) s.views id v w at in let o' = total_member (λ (d : V). is_out d.stage) s.views id v at in
@@ -291,12 +254,12 @@ module _ {S E K : Type 0} (entries : S → List E) (kind : S → K) (op : S) (se
           one_served = omega arith;
           slot = (has ∙ log, of);
           began = r.began;
-          owned = λ n. total_same (λ (d : V). times n d.own) s.views id v w at refl ∙ r.owned n;
+          owned = λ n. total_same (λ (d : V). occurrences n d.own) s.views id v w at refl ∙ r.owned n;
           weights = total_same (λ (d : V). d.weight) s.views id v w at refl ∙ r.weights;
           few = r.few;
-          each_seat = set_each (λ (d : V). (d ≡ spent) ⊎ Sits r.log (kind op) (r.serving + 1) d) s.views id w
+          each_seat = set_each (Rightly r.log (r.serving + 1)) s.views id w
               (inr record { stage = tt; weight = mine.weight; front = prefix_same (log_of v.stage) r.log log; other = mine.other; kind = mine.kind })
-              (λ j d n e. sits_on r.log r.log r.serving (r.serving + 1) d (prefix_same r.log r.log refl) (others_unserved s r id v at one j d n e) (r.each_seat j d e));
+              (λ j d n e. seated_on r.log r.log r.serving (r.serving + 1) d (prefix_same r.log r.log refl) (others_unserved s r id v at one j d n e) (r.each_seat j d e));
         },
         refl,
       )
@@ -315,7 +278,7 @@ module _ {S E K : Type 0} where
 
   pub passes_back : (entries : S → List E) (kind : S → K) (op : S) (seats slots id : ℕ) (m m' m'' : Me (Option S) (View E K)) (k : K) (x : S) → m.1 ≡ holding m.0.stage → m.0.kind ≡ Some k
       → m' ≡ (with_list m.0 (entries x), m.1) → m'' ≡ (m'.0, (0, Some x) ∷ rest m'.1) → kind x ≡ kind op
-      → Allows (Kept entries kind op seats) slots id m'' 2 (λ n. (n + 1) % 2 ^ 64) (passed (step slots 2 1 0 none) m'')
+      → Allows (ObeysRule entries kind op seats) slots id m'' 2 (λ n. (n + 1) % 2 ^ 64) (passed (step slots 2 1 0 none) m'')
   passes_back entries kind op seats slots id m m' m'' k x held is marks put of =
       let me = put_back_at m m' m'' (entries x) x held marks put in
       passes entries kind op seats slots id m'' k x (ap (λ (n : Me (Option S) (View E K)). is_inside n.0.stage) me) (ap (λ (n : Me (Option S) (View E K)). n.0.kind) me ∙ is)
