@@ -1,6 +1,6 @@
 -- What the steps on words and the steps on seats share.
-use Rattle.std.proofs.Common.{◌≡◌, ◌≢◌, ◌⊎◌, ℕ, ◌+◌, ◌≤◌, ◌==◌, true, cond, Option, Some, None, List, []}
-use Rattle.std.proofs.Common.{length, get_or, set, refl, ap, sym, subst, ◌∙◌, inl, inr, ⊎_elim, arith}
+use Rattle.std.proofs.Common.{◌≡◌, ◌≢◌, ◌⊎◌, ℕ, ◌+◌, ◌≤◌, ◌==◌, true, cond, Option, Some, None, List}
+use Rattle.std.proofs.Common.{get_or, set, refl, ap, sym, subst, ◌∙◌, ⊎_elim, arith}
 use Rattle.std.proofs.lemmas.Bool.Decides.{nat_tests}
 use mathlib.Core.Option.{Option as Maybe, none, some}
 use lib.ListN.{get_elem?}
@@ -87,7 +87,8 @@ module _ {S E K : Type 0} (entries : S → List E) (kind : S → K) (op : S) (se
   few_out log serving vs each all few =
       let t = total_le (λ (v : V). is_out v.stage) (λ (v : V). v.weight) vs (λ i v e. out_below log serving v (each i v e)) in omega arith
 
-  pub at_home : (log : List E) (of : K) (h : Maybe (Option S)) → is_home h ≡ 1 → HoldsState entries kind log of h → (x : S) × (h ≡ some (Some x)) × (entries x ≡ log) × (kind x ≡ of)
+  pub at_home : (log : List E) (of : K) (h : Maybe (Option S)) → is_home h ≡ 1 → HoldsState entries kind log of h
+      → (x : S) × (h ≡ some (Some x)) × (entries x ≡ log) × (kind x ≡ of)
   at_home log of none e l = absurd (omega arith)
   at_home log of (some None) e l = absurd l
   at_home log of (some (Some x)) e l = (x, refl, l.0, l.1)

@@ -1,5 +1,5 @@
 -- A seat is split, joined with another, and is the last; and a turn begins. Each keeps the rule.
-use Rattle.std.proofs.Common.{◌≡◌, ◌≢◌, ◌⊎◌, ℕ, zero, suc, ◌+◌, ◌≤◌, Option, Some, List, [], ◌∷◌, ◌++◌, map, length, get_or, set}
+use Rattle.std.proofs.Common.{◌≡◌, ◌≢◌, ℕ, zero, suc, ◌+◌, ◌≤◌, Option, Some, List, [], ◌∷◌, ◌++◌, map, length, get_or, set}
 use Rattle.std.proofs.Common.{refl, ap, sym, ◌∙◌, subst, inl, inr, ⊎_elim, arith}
 use Rattle.std.proofs.lemmas.Bool.Decides.{nat_tests}
 use mathlib.Core.Logic.{dite}
@@ -146,9 +146,11 @@ module _ {S E K : Type 0} (entries : S → List E) (kind : S → K) (op : S) (se
   }
 
   -- a seat with the whole weight is the only one that isn't spent
-  alone : (s : Table) (r : Obeys s) (id : ℕ) (v : Entry) → get_elem? s.views id ≡ some v → v.weight ≡ seats → (j : ℕ) (d : Entry) → j ≢ id → get_elem? s.views j ≡ some d → d ≡ spent
+  alone : (s : Table) (r : Obeys s) (id : ℕ) (v : Entry) → get_elem? s.views id ≡ some v → v.weight ≡ seats → (j : ℕ) (d : Entry) → j ≢ id
+      → get_elem? s.views j ≡ some d → d ≡ spent
   alone s r id v at whole j d n e = ⊎_elim (λ (p : d ≡ spent). p)
-      (λ (t : IsSeated r.log (kind op) r.serving d). let m = total_two (λ (u : Entry). u.weight) s.views j id d v n e at in let all = r.weights in let one = t.weight in absurd (omega arith)) (r.each_seat j d e)
+      (λ (t : IsSeated r.log (kind op) r.serving d). let m = total_two (λ (u : Entry). u.weight) s.views j id d v n e at in let all = r.weights in
+      let one = t.weight in absurd (omega arith)) (r.each_seat j d e)
 
   all_its : (s : Table) (r : Obeys s) (id : ℕ) (v : Entry) → get_elem? s.views id ≡ some v → v.weight ≡ seats → (f : Entry → ℕ) → f spent ≡ 0 → total f s.views ≡ f v
   all_its s r id v at whole f none_spent = total_only f s.views id v at (λ j d n e. ap f (alone s r id v at whole j d n e) ∙ none_spent)

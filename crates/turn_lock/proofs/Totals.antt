@@ -36,9 +36,11 @@ module _ {V : Type 0} where
   total_le f g (x ∷ xs) h = let p = h zero x refl in let q = total_le f g xs (λ i v e. h (suc i) v e) in omega arith
 
   -- the same, where the gap at one seat is known
-  pub total_le_at : (f g : V → ℕ) (vs : List V) (i : ℕ) (v : V) → get_elem? vs i ≡ some v → ((j : ℕ) (w : V) → get_elem? vs j ≡ some w → f w ≤ g w) → total f vs + g v ≤ total g vs + f v
+  pub total_le_at : (f g : V → ℕ) (vs : List V) (i : ℕ) (v : V) → get_elem? vs i ≡ some v → ((j : ℕ) (w : V) → get_elem? vs j ≡ some w → f w ≤ g w)
+      → total f vs + g v ≤ total g vs + f v
   total_le_at f g [] i v e h = absurd (some-ne-none v (sym e))
-  total_le_at f g (x ∷ xs) zero v e h = let p : f x ≡ f v = ap f (some-injective x v e) in let p' : g x ≡ g v = ap g (some-injective x v e) in let q = total_le f g xs (λ j w d. h (suc j) w d) in omega arith
+  total_le_at f g (x ∷ xs) zero v e h = let p : f x ≡ f v = ap f (some-injective x v e) in let p' : g x ≡ g v = ap g (some-injective x v e) in
+      let q = total_le f g xs (λ j w d. h (suc j) w d) in omega arith
   total_le_at f g (x ∷ xs) (suc i) v e h = let p = h zero x refl in let q = total_le_at f g xs i v e (λ j w d. h (suc j) w d) in omega arith
 
   total_zero : (vs : List V) → total (λ _. 0) vs ≡ 0
@@ -51,7 +53,8 @@ module _ {V : Type 0} where
   total_only f (x ∷ xs) zero v e h =
       let p : f x ≡ f v = ap f (some-injective x v e) in let z = total_zero xs in
       let q = total_le f (λ _. 0) xs (λ j w d. let n = h (suc j) w (λ n. absurd (omega arith)) d in omega arith) in omega arith
-  total_only f (x ∷ xs) (suc i) v e h = let p = h zero x (λ n. absurd (omega arith)) refl in let q = total_only f xs i v e (λ j w n d. h (suc j) w (λ s. n (omega arith)) d) in omega arith
+  total_only f (x ∷ xs) (suc i) v e h = let p = h zero x (λ n. absurd (omega arith)) refl in
+      let q = total_only f xs i v e (λ j w n d. h (suc j) w (λ s. n (omega arith)) d) in omega arith
 
 pub occurrences_append : (k : ℕ) (xs ys : List ℕ) → occurrences k (xs ++ ys) ≡ occurrences k xs + occurrences k ys
 occurrences_append k [] ys = omega arith

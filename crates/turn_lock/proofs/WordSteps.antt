@@ -1,5 +1,5 @@
 -- Each step on a word keeps the rule: draw, look, mark and pass on.
-use Rattle.std.proofs.Common.{◌≡◌, ◌≢◌, ◌⊎◌, ℕ, ◌+◌, ◌-◌, ◌%◌, ◌^◌, ◌<◌, ◌≤◌, ◌==◌, true, cond, Option, Some, None, List, [], ◌∷◌}
+use Rattle.std.proofs.Common.{◌≡◌, ◌≢◌, ℕ, ◌+◌, ◌-◌, ◌%◌, ◌^◌, ◌<◌, ◌≤◌, ◌==◌, true, cond, Option, Some, List, [], ◌∷◌}
 use Rattle.std.proofs.Common.{length, get_or, set, refl, ap, sym, ◌∙◌, subst, inl, inr, ⊎_elim, arith}
 use Rattle.std.proofs.lemmas.Bool.Decides.{nat_tests}
 use mathlib.Core.Logic.{dite}
@@ -143,7 +143,8 @@ module _ {S E K : Type 0} (entries : S → List E) (kind : S → K) (op : S) (se
       let free = is_free s r id v at (subst (λ (n : ℕ). has_ticket n v.stage ≡ 1) (sym e) has) (ap is_served waits) in
       let h = at_home entries kind op seats r.log (kind op) r.home free r.slot in (h.0, h.1, h.2, h.3, e)
 
-  pub looks : (slots id : ℕ) (me : M) (t : ℕ) (k : K) → me.0.stage ≡ Waiting t → me.0.kind ≡ Some k → Allows Rule slots id me 2 (λ n. n) (looked entries kind (step slots 2 0 0 none) me)
+  pub looks : (slots id : ℕ) (me : M) (t : ℕ) (k : K) → me.0.stage ≡ Waiting t → me.0.kind ≡ Some k
+      → Allows Rule slots id me 2 (λ n. n) (looked entries kind (step slots 2 0 0 none) me)
   looks slots id me t k waits is s r wide at small =
       let v : V = me.0 in let own : ticket_of v.stage ≡ t = ap ticket_of waits in
       let found : get_or s.words 2 0 ≡ r.serving % 2 ^ 64 = word s r 2 _ refl in
@@ -159,7 +160,8 @@ module _ {S E K : Type 0} (entries : S → List E) (kind : S → K) (op : S) (se
       ))
       (λ miss. (v, keeps, tt, unchanged s r 2 id v me.1 at, ((λ hit. absurd (miss hit)), λ _. refl)))
 
-  others_unserved : (s : St) (r : Rule s) (id : ℕ) (v : V) → get_elem? s.views id ≡ some v → is_served v.stage ≡ 1 → (j : ℕ) (d : V) → j ≢ id → get_elem? s.views j ≡ some d → is_served d.stage ≡ 0
+  others_unserved : (s : St) (r : Rule s) (id : ℕ) (v : V) → get_elem? s.views id ≡ some v → is_served v.stage ≡ 1 → (j : ℕ) (d : V) → j ≢ id
+      → get_elem? s.views j ≡ some d → is_served d.stage ≡ 0
   others_unserved s r id v at one j d n e = let t = total_two (λ (u : V). is_served u.stage) s.views j id d v n e at in let o = r.one_served in omega arith
 
   -- while a seat is served the slot is away
@@ -227,7 +229,8 @@ module _ {S E K : Type 0} (entries : S → List E) (kind : S → K) (op : S) (se
         refl,
       )
 
-  pub passes : (slots id : ℕ) (me : M) (k : K) (x : S) → is_inside me.0.stage ≡ true → me.0.kind ≡ Some k → me.1 ≡ (0, Some x) ∷ [] → entries x ≡ log_of me.0.stage → kind x ≡ kind op
+  pub passes : (slots id : ℕ) (me : M) (k : K) (x : S) → is_inside me.0.stage ≡ true → me.0.kind ≡ Some k → me.1 ≡ (0, Some x) ∷ []
+      → entries x ≡ log_of me.0.stage → kind x ≡ kind op
       → Allows Rule slots id me 2 (λ n. (n + 1) % 2 ^ 64) (passed (step slots 2 1 0 none) me)
   passes slots id me k x inside is held has of s r wide at small =
       let v : V = me.0 in let w : V = back_outside v in
@@ -247,7 +250,8 @@ module _ {S E K : Type 0} (entries : S → List E) (kind : S → K) (op : S) (se
           home = some (Some x);
           words = ap (λ (l : List ℕ). set l 2 ((get_or l 2 0 + 1) % 2 ^ 64)) r.words ∙ ap (λ (n : ℕ). length r.log ∷ r.ticket % 2 ^ 64 ∷ n ∷ []) (next r.serving);
           homes = (λ i. put_back (r.homes i) (held i));
-          tickets = λ n. let t = total_set (λ (d : V). has_ticket n d.stage) s.views id v w at in let h : has_ticket n v.stage ≡ cond (r.serving == n) 1 0 = knows.4 n ∙ ap (λ (m : ℕ). cond (m == n) 1 0) knows.0 in
+          tickets = λ n. let t = total_set (λ (d : V). has_ticket n d.stage) s.views id v w at in
+              let h : has_ticket n v.stage ≡ cond (r.serving == n) 1 0 = knows.4 n ∙ ap (λ (m : ℕ). cond (m == n) 1 0) knows.0 in
               let b = r.tickets n in grind (arith, nat_tests);
           as_many = omega arith;
           at_most = omega arith;
@@ -276,7 +280,8 @@ module _ {S E K : Type 0} where
   put_back_at m m' m'' list x held marks put =
       put ∙ (λ i. ((marks i).0, (0, Some x) ∷ rest (marks i).1)) ∙ (λ i. (with_list m.0 list, (0, Some x) ∷ (ap rest held ∙ nothing_left m.0.stage) i))
 
-  pub passes_back : (entries : S → List E) (kind : S → K) (op : S) (seats slots id : ℕ) (m m' m'' : Me (Option S) (View E K)) (k : K) (x : S) → m.1 ≡ holding m.0.stage → m.0.kind ≡ Some k
+  pub passes_back : (entries : S → List E) (kind : S → K) (op : S) (seats slots id : ℕ) (m m' m'' : Me (Option S) (View E K)) (k : K) (x : S)
+      → m.1 ≡ holding m.0.stage → m.0.kind ≡ Some k
       → m' ≡ (with_list m.0 (entries x), m.1) → m'' ≡ (m'.0, (0, Some x) ∷ rest m'.1) → kind x ≡ kind op
       → Allows (ObeysRule entries kind op seats) slots id m'' 2 (λ n. (n + 1) % 2 ^ 64) (passed (step slots 2 1 0 none) m'')
   passes_back entries kind op seats slots id m m' m'' k x held is marks put of =
