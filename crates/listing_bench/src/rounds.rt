@@ -3,7 +3,7 @@ use criteria_model::Model;
 use pair_enumeration::Classes;
 use std::alloc::{AllocError, Global};
 
-/// Lists the model's classes so often, and answers how many were listed in all.
+/// Lists the model's classes this often, and returns how many were listed in all.
 pub fn list_often(alloc: Global, model: &Model, rounds: u32) -> Result<u64, AllocError> {
     let mut listed: u64 = 0;
     for _ in 0..rounds {
@@ -13,7 +13,7 @@ pub fn list_often(alloc: Global, model: &Model, rounds: u32) -> Result<u64, Allo
     Ok(listed)
 }
 
-/// Looks each class up so often, and answers how many were found at their places in all.
+/// Looks each class up this often, and returns how many were found at their places in all.
 pub fn find_often(classes: &Classes, rounds: u32) -> u64 {
     let mut found: u64 = 0;
     for _ in 0..rounds {

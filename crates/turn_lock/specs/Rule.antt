@@ -1,4 +1,4 @@
--- The rule of the table behind a turn.
+-- The rule of the table of a turn.
 -- Word 0 is the count of entries, word 1 the next ticket and word 2 the ticket that is served. A number of a word is that of its ticket modulo 2^64.
 use Rattle.std.specs.Prelude.{◌≡◌, ◌⊎◌, ℕ, ◌+◌, ◌%◌, ◌^◌, ◌≤◌, ◌==◌, ◌&&◌, List, [], ◌∷◌, length, Option, Some, None, cond, leb, ltb}
 use mathlib.Core.Option.{Option as Maybe, none, some}
