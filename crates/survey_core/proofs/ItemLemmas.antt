@@ -2,7 +2,7 @@
 use Rattle.std.proofs.Common.{◌≡◌, ℕ, zero, suc, ◌-◌, ◌≤◌, List, ◌++◌, length, Some, slice_get, sym, ap, ◌∙◌, arith}
 use Rattle.std.proofs.lemmas.Option.{none-some, slice_get_within}
 use Rattle.survey_core.specs.Histories.{item_at}
-use Rattle.survey_core.proofs.ListSteps.{slice_get-append}
+use Rattle.survey_core.proofs.ListSteps.{slice_get-append, slice_get_inside}
 
 one_back : (k : ℕ) → suc k - 1 ≡ k
 one_back k = omega arith
@@ -26,3 +26,7 @@ item_within items n x at =
 pub item_at-append : {X : Type 0} (items more : List X) (n : ℕ) (x : X) → item_at items n ≡ Some x → item_at (items ++ more) n ≡ Some x
 item_at-append items more zero x at = at
 item_at-append items more (suc k) x at = slice_get-append items more k x at
+
+pub item_inside : {X : Type 0} (items : List X) (n : ℕ) → 1 ≤ n → n ≤ length items → (x : X) × (item_at items n ≡ Some x)
+item_inside items zero from_one within = absurd (omega arith)
+item_inside items (suc k) from_one within = slice_get_inside items k (omega arith)

@@ -10,5 +10,6 @@
 pub use replies::{AnswerReply, NextReply, ValuesReply, WithdrawReply};
 pub use respondent::{Events, Respondent};
 
+pub mod laws;
 mod replies;
 mod respondent;
