@@ -1,0 +1,4 @@
+pub mod DictionaryPoints
+pub mod RowPoints
+pub mod Decided
+pub mod Replies
