@@ -9,7 +9,7 @@ use Rattle.minors.proofs.Laws.{factor_is_bounded, minor_is_bounded, scale_is_bou
 use Rattle.row_laws.specs.Rows.{dot}
 use Rattle.fraction_free.specs.declared.loaded.LoadedRow.{LoadedRow}
 use Rattle.fraction_free.specs.Arrangement.{IsArrangement, Arranged}
-use Rattle.fraction_free.specs.Dictionary.{IsDictionary, HasSlacks, Satisfies, most_size}
+use Rattle.fraction_free.specs.Dictionary.{IsDictionary, HasSlacks, Satisfies, max_number}
 use Rattle.fraction_free.specs.Representation.{table_row, square_of, view_of, AreMinors, IsRepresentation, CanExchange}
 use Rattle.fraction_free.proofs.Table.{square_small, length-square, table_row_small}
 use Rattle.fraction_free.proofs.Values.{same_dot, combination_value, variable_value}
@@ -37,7 +37,7 @@ satisfied m l s order lines a b c d x t h = record {
       ∙ ap (λ vs. dot (get_or lines row []) (map x vs)) (sym (columns_and_constant m order (omega (arith, t.order_len)) t.constant));
 }
 
-pub small_scale : (m : ℕ) (l : List LoadedRow) (s : ℤ) (order : List ℕ) (lines : List (List ℤ)) → AreMinors m l s order lines → unsigned_abs s ≤ most_size
+pub small_scale : (m : ℕ) (l : List LoadedRow) (s : ℤ) (order : List ℕ) (lines : List (List ℤ)) → AreMinors m l s order lines → unsigned_abs s ≤ max_number
 small_scale m l s order lines t =
     let len : length (square_of m l order) ≡ m + 1 = length-square m l order (omega (arith, t.order_len)) in
     let bound = scale_is_bounded s (square_of m l order) 25 t.scale_is (omega arith) (square_small m l order t.columns_most t.order_len t.variables t.rows) in
@@ -45,7 +45,7 @@ small_scale m l s order lines t =
     omega arith
 
 pub small_number : (m : ℕ) (l : List LoadedRow) (s : ℤ) (order : List ℕ) (lines : List (List ℤ)) (row column : ℕ) → AreMinors m l s order lines → row < length l
-    → unsigned_abs (get_or (get_or lines row []) column (pos 0)) ≤ most_size
+    → unsigned_abs (get_or (get_or lines row []) column (pos 0)) ≤ max_number
 small_number m l s order lines row column t inside =
     let len : length (square_of m l order) ≡ m + 1 = length-square m l order (omega (arith, t.order_len)) in
     let v : get_or order (m + 1 + row) 0 < m + 1 + length l = omega (arith, t.variables.below (m + 1 + row) (omega (arith, t.order_len)), t.order_len) in
@@ -81,7 +81,7 @@ dictionary_from_kept m l s places lines a b c d e f k =
       solutions = λ x. (k.solutions x, satisfied m l s order lines a b e f x t);
     }
 
-pub most_fits : most_size < 2 ^ 89
+pub most_fits : max_number < 2 ^ 89
 most_fits = bound_is_small.1
 
 pub number_fits : (m : ℕ) (l : List LoadedRow) (s : ℤ) (order : List ℕ) (lines : List (List ℤ)) (row column : ℕ) → AreMinors m l s order lines

@@ -18,6 +18,9 @@ pub record IsExchangedTo (scale : ℤ) (column : ℕ) (pivot old now : List ℤ)
 pub exchanged_none : (scale : ℤ) (column : ℕ) (pivot old : List ℤ) → IsExchangedTo scale column pivot old old 0
 exchanged_none scale column pivot old = record { len = refl; divided = λ other below apart. absurd (omega arith); rest = λ other h. refl; column_kept = refl }
 
+pub products : (a c d b w x y z : ℤ) → a ≡ w → c ≡ x → d ≡ y → b ≡ z → a *ℤ b -ℤ c *ℤ d ≡ w *ℤ z -ℤ x *ℤ y
+products a c d b w x y z f g i j = rw (f, g, i, j) refl
+
 pub exchanged_more : (scale : ℤ) (column : ℕ) (pivot old now new : List ℤ) (place : ℕ) (entry factor other : ℤ) → IsExchangedTo scale column pivot old now place → place ≢ column
     → entry ≡ with_sign (number_at pivot column) (number_at pivot column) → factor ≡ with_sign (number_at pivot column) (number_at old column) → other ≡ number_at pivot place
     → IsExchangedAt scale entry factor other now new place → IsExchangedTo scale column pivot old new (place + 1)
@@ -38,9 +41,6 @@ exchanged_more scale column pivot old now new place entry factor number h apart 
       rest = λ other above. e.others other (omega arith) ∙ h.rest other (omega arith);
       column_kept = e.others column (λ same. apart (sym same)) ∙ h.column_kept;
     }
-  where
-    products : (a c d b w x y z : ℤ) → a ≡ w → c ≡ x → d ≡ y → b ≡ z → a *ℤ b -ℤ c *ℤ d ≡ w *ℤ z -ℤ x *ℤ y
-    products a c d b w x y z f g i j = rw (f, g, i, j) refl
 
 -- a line with a 0 in the pivot's column stays, where the entry is the old scale up to its sign
 pub stays : (scale : ℤ) (column : ℕ) (pivot old : List ℤ) → with_sign (number_at pivot column) (number_at pivot column) ≡ scale

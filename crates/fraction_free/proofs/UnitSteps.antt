@@ -5,7 +5,7 @@ use Rattle.std.proofs.lemmas.Int.{ints, fits_signed_from_abs}
 use Rattle.wide_step.specs.Quotient.{HasQuotient}
 use Rattle.wide_step.proofs.Integers.{read_back}
 
-small_back : (z : ℤ) → unsigned_abs z < 2 ^ 126 → to_z w128 (of_z w128 z) ≡ z
+pub small_back : (z : ℤ) → unsigned_abs z < 2 ^ 126 → to_z w128 (of_z w128 z) ≡ z
 small_back z h = read_back w128 z (omega arith)
 
 quotient_step : (q x p : ℤ) → q *ℤ pos 1 ≡ pos 1 *ℤ x -ℤ p → q ≡ x -ℤ p

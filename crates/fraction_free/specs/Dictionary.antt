@@ -5,6 +5,7 @@ use Rattle.std.specs.List.{range_with_len}
 use Rattle.criteria_model.specs.Lists.{IsRow}
 use Rattle.row_laws.specs.Rows.{dot}
 use Rattle.minors.specs.Minor.{factorial}
+use Rattle.fraction_free.specs.declared.limits.TheConstants.{MAX_ROWS}
 use Rattle.fraction_free.specs.declared.loaded.LoadedRow.{LoadedRow}
 use Rattle.fraction_free.specs.Arrangement.{IsArrangement}
 
@@ -70,8 +71,8 @@ pub record IsLoadable (columns : ℕ) (row : LoadedRow) : Type 0 where
   pub least : (row.least ≡ pos 0) ⊎ (row.least ≡ pos 1)
 
 -- 25 times 25!, which bounds every number of a dictionary
-abbrev pub most_size : ℕ
-most_size = 25 * factorial 25
+abbrev pub max_number : ℕ
+max_number = 25 * factorial 25
 
 -- what holds of each dictionary
 pub record IsDictionary (dictionary : DictionaryView) : Type 0 where
@@ -79,7 +80,7 @@ pub record IsDictionary (dictionary : DictionaryView) : Type 0 where
   pub columns_most : dictionary.columns ≤ 24
   pub columns_room : dictionary.columns ≤ dictionary.room_columns
   pub rows_room : length dictionary.loaded ≤ dictionary.room_rows
-  pub rows_most : dictionary.room_rows ≤ 65536
+  pub rows_most : dictionary.room_rows ≤ MAX_ROWS
   pub nonbasic_len : length dictionary.nonbasic ≡ dictionary.columns
   pub basic_len : length dictionary.basic ≡ length dictionary.loaded
   pub lines_len : length dictionary.lines ≡ length dictionary.loaded
@@ -88,8 +89,8 @@ pub record IsDictionary (dictionary : DictionaryView) : Type 0 where
   -- each variable is that of one column or of one row
   pub variables : IsArrangement (dictionary.nonbasic ++ 0 ∷ dictionary.basic)
   pub positive : pos 1 ≤ℤ dictionary.scale
-  pub scale_size : unsigned_abs dictionary.scale ≤ most_size
+  pub scale_size : unsigned_abs dictionary.scale ≤ max_number
   pub sizes : (row column : ℕ) → row < length dictionary.loaded → column ≤ dictionary.columns
-      → unsigned_abs (entry_in dictionary row column) ≤ most_size
+      → unsigned_abs (entry_in dictionary row column) ≤ max_number
   -- the assignments that satisfy it are those of the loaded rows' slacks
   pub solutions : (x : ℕ → ℤ) → Satisfies dictionary x ↔ HasSlacks dictionary.columns dictionary.loaded x

@@ -5,6 +5,7 @@ use Rattle.std.specs.List.{range_with_len}
 use Rattle.wide_step.specs.Quotient.{HasQuotient}
 use Rattle.fraction_free.specs.Changes.{number_at, IsOtherLine, IsPivotLine}
 use Rattle.minors.specs.Combination.{IsCombination, IsScale}
+use Rattle.fraction_free.specs.declared.limits.TheConstants.{MAX_ROWS, NUMBER_BOUND}
 use Rattle.fraction_free.specs.declared.loaded.LoadedRow.{LoadedRow}
 use Rattle.fraction_free.specs.Arrangement.{IsArrangement, Arranged}
 use Rattle.fraction_free.specs.Dictionary.{DictionaryView, IsLoadable, HasSlacks, Satisfies, loaded_at}
@@ -68,7 +69,7 @@ pub record IsRepresentation (columns : ℕ) (loaded : List LoadedRow) (scale : �
   pub columns_room : columns ≤ room_columns
   pub columns_most : room_columns ≤ 24
   pub rows_room : length loaded ≤ room_rows
-  pub rows_most : room_rows ≤ 65536
+  pub rows_most : room_rows ≤ MAX_ROWS
   pub places_room : room_columns + 1 + room_rows ≤ places.room
   pub has_lines_room : room_rows ≤ lines_room
   pub has_loaded_room : room_rows ≤ loaded_room
@@ -76,10 +77,10 @@ pub record IsRepresentation (columns : ℕ) (loaded : List LoadedRow) (scale : �
 -- what a pivot asks of the lines: sizes, and that each difference of products has an exact quotient
 pub record CanExchange (scale : ℤ) (at column : ℕ) (lines : List (List ℤ)) : Type 0 where
   pub positive : pos 1 ≤ℤ scale
-  pub scale_size : unsigned_abs scale < 2 ^ 89
+  pub scale_size : unsigned_abs scale < NUMBER_BOUND
   pub len : (row : ℕ) → row < length lines → length (slice_index_or lines row []) ≡ length (slice_index_or lines at [])
   pub column_below : column < length (slice_index_or lines at [])
-  pub sizes : (row place : ℕ) → unsigned_abs (number_at (slice_index_or lines row []) place) < 2 ^ 89
+  pub sizes : (row place : ℕ) → unsigned_abs (number_at (slice_index_or lines row []) place) < NUMBER_BOUND
   pub exact : (row place : ℕ) → row < length lines → row ≢ at → place < length (slice_index_or lines at []) → place ≢ column
       → HasQuotient (number_at (slice_index_or lines at []) column *ℤ number_at (slice_index_or lines row []) place -ℤ number_at (slice_index_or lines row []) column *ℤ number_at (slice_index_or lines at []) place) scale
 
@@ -89,9 +90,9 @@ pub record CanCombine (columns : ℕ) (scale : ℤ) (order : List ℕ) (lines : 
   pub columns_most : columns ≤ 24
   pub order_len : length order ≡ columns + 1 + length lines
   pub constant : slice_index order columns ≡ 0
-  pub scale_size : unsigned_abs scale < 2 ^ 89
+  pub scale_size : unsigned_abs scale < NUMBER_BOUND
   pub len : (row : ℕ) → row < length lines → length (slice_index_or lines row []) ≡ columns + 1
-  pub sizes : (row place : ℕ) → unsigned_abs (number_at (slice_index_or lines row []) place) < 2 ^ 89
+  pub sizes : (row place : ℕ) → unsigned_abs (number_at (slice_index_or lines row []) place) < NUMBER_BOUND
 
 -- what a pivot makes of the lines
 pub record AreExchanged (scale : ℤ) (at column : ℕ) (old new : List (List ℤ)) : Type 0 where

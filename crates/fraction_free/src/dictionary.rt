@@ -2,6 +2,7 @@
 ghost use Rattle.std.specs.Prelude.{◌≡◌, ◌≢◌, ◌↔◌, ◌⊎◌, ℕ, ◌+◌, ◌-◌, ◌<◌, ◌≤◌, length, IfOk, slice_index, Contains, ℤ, pos};
 
 use crate::NoMemory;
+use crate::limits::MAX_ROWS;
 use crate::lines::{Line, first_row_with, pivot_lines, with_sign};
 use crate::loaded::LoadedRow;
 use crate::places::Places;
@@ -9,9 +10,6 @@ use crate::slack_line::slack_line;
 use criteria_model::Row;
 use std::alloc::Global;
 use std::marker::Model;
-
-/// The most rows that a dictionary can have room for.
-pub const MOST_ROWS: u32 = 65_536;
 
 /// A dictionary over the rows that were loaded.
 ///
@@ -54,7 +52,7 @@ impl Dictionary {
     pub fn reserve(alloc: Global, cols: u8, rows: u32) -> Result<Dictionary, NoMemory>
         requires cols_some { 1 ≤ cols }
         requires cols_most { cols ≤ 24 }
-        requires rows_most { rows ≤ 65536 }
+        requires rows_most { rows ≤ MAX_ROWS }
         ensures empty { IfOk result (λ d. d ≡ empty_dictionary cols cols rows 0 0) }
         ensures dictionary { IfOk result (λ d. IsDictionary d) }
     {

@@ -13,12 +13,14 @@
 #![tactic(auto)]
 
 mod dictionary;
+mod limits;
 mod lines;
 mod loaded;
 mod places;
 mod slack_line;
 
 pub use dictionary::Dictionary;
+pub use limits::MAX_ROWS;
 pub use loaded::LoadedRow;
 pub use std::alloc::AllocError as NoMemory;
 

@@ -4,34 +4,36 @@ ghost use Rattle.wide_step.specs.Quotient.{HasQuotient};
 ghost use Rattle.fraction_free.specs.Changes.{number_at, with_sign, IsOtherLine, IsPivotLine, IsExchangedAt};
 ghost use Rattle.fraction_free.specs.Representation.{CanExchange, AreExchanged};
 
+use crate::limits::{MAX_LINE, NUMBER_BOUND};
 use std::marker::Model;
 use wide_step::Divisor;
 
 /// A list of at most 25 whole numbers: the entries of a row, and its constant.
 #[derive(Drop)]
 pub struct Line {
-    cells: [i128; 25],
+    cells: [i128; MAX_LINE],
     len: u8,
 }
 
 impl Model for Line {
     ghost use Rattle.std.specs.Prelude.{ℤ, ◌≤◌, List, take};
+    ghost use Rattle.fraction_free.specs.declared.limits.TheConstants.{MAX_LINE};
 
     ghost Value = { List ℤ };
 
     ghost view = { λ l. take l.len l.cells };
 
-    ghost invariant = { λ l. l.len ≤ 25 };
+    ghost invariant = { λ l. l.len ≤ MAX_LINE };
 }
 
 impl Line {
     /// So many zeros.
     pub fn zeros(len: usize) -> Line
-        requires { len ≤ 25 }
+        requires { len ≤ MAX_LINE }
         ensures { result ≡ replicate len (pos 0) }
     {
         Line {
-            cells: [0; 25],
+            cells: [0; MAX_LINE],
             len: len as u8,
         }
     }
@@ -49,7 +51,7 @@ impl Line {
     /// How many numbers it has.
     pub fn len(&self) -> usize
         ensures value { result ≡ length self.now }
-        ensures most { result ≤ 25 }
+        ensures most { result ≤ MAX_LINE }
     {
         usize::from(self.len)
     }
@@ -78,8 +80,8 @@ impl Line {
     pub fn exchange(&mut self, pivot: &Line, column: usize, scale: &Divisor)
         requires len { length pivot.now ≡ length self.old }
         requires column { column < length self.old }
-        requires sizes { (place : ℕ) → unsigned_abs (number_at self.old place) < 2 ^ 89 }
-        requires pivot_sizes { (place : ℕ) → unsigned_abs (number_at pivot.now place) < 2 ^ 89 }
+        requires sizes { (place : ℕ) → unsigned_abs (number_at self.old place) < NUMBER_BOUND }
+        requires pivot_sizes { (place : ℕ) → unsigned_abs (number_at pivot.now place) < NUMBER_BOUND }
         requires exact { (place : ℕ) → place < length self.old → place ≢ column
             → HasQuotient (number_at pivot.now column *ℤ number_at self.old place -ℤ number_at self.old column *ℤ number_at pivot.now place) scale.now }
         ensures { IsOtherLine scale.now column pivot.now self.old self.new }
@@ -104,10 +106,10 @@ impl Line {
     #[inline]
     fn exchange_at(&mut self, place: usize, entry: i128, factor: i128, other: i128, scale: &Divisor)
         requires place { place < length self.old }
-        requires entry_size { unsigned_abs entry < 2 ^ 89 }
-        requires number_size { unsigned_abs (number_at self.old place) < 2 ^ 89 }
-        requires factor_size { unsigned_abs factor < 2 ^ 89 }
-        requires other_size { unsigned_abs other < 2 ^ 89 }
+        requires entry_size { unsigned_abs entry < NUMBER_BOUND }
+        requires number_size { unsigned_abs (number_at self.old place) < NUMBER_BOUND }
+        requires factor_size { unsigned_abs factor < NUMBER_BOUND }
+        requires other_size { unsigned_abs other < NUMBER_BOUND }
         requires exact { HasQuotient (entry *ℤ number_at self.old place -ℤ factor *ℤ other) scale.now }
         ensures { IsExchangedAt scale.now entry factor other self.old self.new place }
     {
@@ -118,8 +120,8 @@ impl Line {
     /// The line of the variable that was nonbasic, after a pivot on this row.
     pub fn leave(&mut self, column: usize, scale: i128)
         requires column { column < length self.old }
-        requires scale_size { unsigned_abs scale < 2 ^ 89 }
-        requires sizes { (place : ℕ) → unsigned_abs (number_at self.old place) < 2 ^ 89 }
+        requires scale_size { unsigned_abs scale < NUMBER_BOUND }
+        requires sizes { (place : ℕ) → unsigned_abs (number_at self.old place) < NUMBER_BOUND }
         ensures { IsPivotLine scale column self.old self.new }
     {
         for place in 0..self.len() {
@@ -137,7 +139,7 @@ impl Line {
         requires len { length other.now ≡ length self.old }
         requires times { unsigned_abs times ≤ 25 }
         requires sizes { (place : ℕ) → unsigned_abs (number_at self.old place) < 2 ^ 100 }
-        requires other_sizes { (place : ℕ) → unsigned_abs (number_at other.now place) < 2 ^ 89 }
+        requires other_sizes { (place : ℕ) → unsigned_abs (number_at other.now place) < NUMBER_BOUND }
         ensures len { length self.new ≡ length self.old }
         ensures sums { (place : ℕ) → place < length self.old
             → number_at self.new place ≡ number_at self.old place +ℤ times *ℤ number_at other.now place }
@@ -152,10 +154,10 @@ impl Line {
 /// increments, there is nothing to divide.
 #[inline]
 fn quotient_of(entry: i128, number: i128, factor: i128, other: i128, scale: &Divisor) -> i128
-    requires entry_size { unsigned_abs entry < 2 ^ 89 }
-    requires number_size { unsigned_abs number < 2 ^ 89 }
-    requires factor_size { unsigned_abs factor < 2 ^ 89 }
-    requires other_size { unsigned_abs other < 2 ^ 89 }
+    requires entry_size { unsigned_abs entry < NUMBER_BOUND }
+    requires number_size { unsigned_abs number < NUMBER_BOUND }
+    requires factor_size { unsigned_abs factor < NUMBER_BOUND }
+    requires other_size { unsigned_abs other < NUMBER_BOUND }
     requires exact { HasQuotient (entry *ℤ number -ℤ factor *ℤ other) scale.now }
     ensures quotient { result *ℤ scale.now ≡ entry *ℤ number -ℤ factor *ℤ other }
     ensures size { unsigned_abs result < 2 ^ 126 }
@@ -188,7 +190,7 @@ pub fn pivot_lines(lines: &mut Vec<Line>, at: usize, column: usize, scale: i128)
     requires at { at < length lines.old.items }
     requires exact { CanExchange scale at column lines.old.items }
     ensures entry { result ≡ number_at (slice_index_or lines.old.items at []) column }
-    ensures size { unsigned_abs result < 2 ^ 89 }
+    ensures size { unsigned_abs result < NUMBER_BOUND }
     ensures lines { AreExchanged scale at column lines.old.items lines.new.items }
     ensures capacity { vec_capacity lines.new ≡ vec_capacity lines.old }
 {

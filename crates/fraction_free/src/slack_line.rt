@@ -7,6 +7,7 @@ ghost use Rattle.fraction_free.specs.Changes.{number_at};
 ghost use Rattle.fraction_free.specs.Dictionary.{IsLoadable};
 ghost use Rattle.fraction_free.specs.Representation.{AreMinors, row_of, slack_constant, square_of, factors_at, IsAdded, CanCombine};
 
+use crate::limits::NUMBER_BOUND;
 use crate::lines::Line;
 use crate::places::Places;
 use criteria_model::Row;
@@ -45,9 +46,9 @@ fn add_variable(line: &mut Line, lines: &[Line], place: usize, scale: i128, time
     requires place { place < length line.old + length lines.now }
     requires len { (row : ℕ) → row < length lines.now → length (slice_index_or lines.now row []) ≡ length line.old }
     requires times { unsigned_abs times ≤ 25 }
-    requires scale_size { unsigned_abs scale < 2 ^ 89 }
+    requires scale_size { unsigned_abs scale < NUMBER_BOUND }
     requires sizes { (at : ℕ) → unsigned_abs (number_at line.old at) < 2 ^ 100 }
-    requires line_sizes { (row at : ℕ) → unsigned_abs (number_at (slice_index_or lines.now row []) at) < 2 ^ 89 }
+    requires line_sizes { (row at : ℕ) → unsigned_abs (number_at (slice_index_or lines.now row []) at) < NUMBER_BOUND }
     ensures { IsAdded times line.old (factors_at scale lines.now (length line.old) place) line.new }
 {
     let width = line.len();

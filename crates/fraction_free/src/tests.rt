@@ -5,13 +5,8 @@ use criteria_model::Row;
 use std::process::Abort;
 use std::test::Fail;
 
-/// What a row of a dictionary of three columns is to hold.
-#[derive(Clone, Copy)]
-struct ExpectedRow {
-    basic: u32,
-    entries: [i128; 3],
-    constant: i128,
-}
+/// What a row of a dictionary of three columns is to hold: its basic variable, entries and constant.
+type ExpectedRow = (u32, [i128; 3], i128);
 
 /// That the dictionary holds these numbers.
 fn expect(
@@ -35,11 +30,12 @@ fn expect(
 fn expect_row(rt: &impl Abort, work: &Dictionary, row: u32, expected: &ExpectedRow) {
     assert!(rt; row >= 1 && row <= work.rows());
     assert_eq!(rt; work.cols(), 3);
-    assert_eq!(rt; work.basic(row), expected.basic);
-    assert_eq!(rt; work.entry(row, 1), expected.entries[0]);
-    assert_eq!(rt; work.entry(row, 2), expected.entries[1]);
-    assert_eq!(rt; work.entry(row, 3), expected.entries[2]);
-    assert_eq!(rt; work.constant(row), expected.constant);
+    let (basic, entries, constant) = *expected;
+    assert_eq!(rt; work.basic(row), basic);
+    assert_eq!(rt; work.entry(row, 1), entries[0]);
+    assert_eq!(rt; work.entry(row, 2), entries[1]);
+    assert_eq!(rt; work.entry(row, 3), entries[2]);
+    assert_eq!(rt; work.constant(row), constant);
 }
 
 fn add(rt: &impl Abort, work: &mut Dictionary, coefficients: &Row, least: i8)
@@ -64,164 +60,40 @@ fn pivot(rt: &impl Abort, work: &mut Dictionary, row: u32, col: u8)
 
 // The rows after each step of the test, as bench/pivots.py works them out by exact fractions.
 
-const LOADED: [ExpectedRow; 3] = [
-    ExpectedRow {
-        basic: 4,
-        entries: [1, -1, 0],
-        constant: -1,
-    },
-    ExpectedRow {
-        basic: 5,
-        entries: [-1, 1, 1],
-        constant: 1,
-    },
-    ExpectedRow {
-        basic: 6,
-        entries: [1, 1, -1],
-        constant: 0,
-    },
-];
+const LOADED: [ExpectedRow; 3] = [(4, [1, -1, 0], -1), (5, [-1, 1, 1], 1), (6, [1, 1, -1], 0)];
 
 const FIRST_PIVOT: [ExpectedRow; 3] = [
-    ExpectedRow {
-        basic: 2,
-        entries: [1, -1, 0],
-        constant: -1,
-    },
-    ExpectedRow {
-        basic: 5,
-        entries: [0, -1, 1],
-        constant: 0,
-    },
-    ExpectedRow {
-        basic: 6,
-        entries: [2, -1, -1],
-        constant: -1,
-    },
+    (2, [1, -1, 0], -1),
+    (5, [0, -1, 1], 0),
+    (6, [2, -1, -1], -1),
 ];
 
-const SECOND_PIVOT: [ExpectedRow; 3] = [
-    ExpectedRow {
-        basic: 2,
-        entries: [1, -1, 1],
-        constant: -1,
-    },
-    ExpectedRow {
-        basic: 5,
-        entries: [0, -2, 2],
-        constant: 0,
-    },
-    ExpectedRow {
-        basic: 1,
-        entries: [1, 1, 1],
-        constant: 1,
-    },
-];
+const SECOND_PIVOT: [ExpectedRow; 3] = [(2, [1, -1, 1], -1), (5, [0, -2, 2], 0), (1, [1, 1, 1], 1)];
 
 const ROW_ADDED: [ExpectedRow; 4] = [
-    ExpectedRow {
-        basic: 2,
-        entries: [1, -1, 1],
-        constant: -1,
-    },
-    ExpectedRow {
-        basic: 5,
-        entries: [0, -2, 2],
-        constant: 0,
-    },
-    ExpectedRow {
-        basic: 1,
-        entries: [1, 1, 1],
-        constant: 1,
-    },
-    ExpectedRow {
-        basic: 7,
-        entries: [2, 0, 4],
-        constant: 4,
-    },
+    (2, [1, -1, 1], -1),
+    (5, [0, -2, 2], 0),
+    (1, [1, 1, 1], 1),
+    (7, [2, 0, 4], 4),
 ];
 
 const THIRD_PIVOT: [ExpectedRow; 4] = [
-    ExpectedRow {
-        basic: 2,
-        entries: [1, -2, 1],
-        constant: -4,
-    },
-    ExpectedRow {
-        basic: 5,
-        entries: [-2, -4, 2],
-        constant: -4,
-    },
-    ExpectedRow {
-        basic: 1,
-        entries: [1, 2, 1],
-        constant: 0,
-    },
-    ExpectedRow {
-        basic: 3,
-        entries: [-2, 0, 2],
-        constant: -4,
-    },
+    (2, [1, -2, 1], -4),
+    (5, [-2, -4, 2], -4),
+    (1, [1, 2, 1], 0),
+    (3, [-2, 0, 2], -4),
 ];
 
 const FOURTH_PIVOT: [ExpectedRow; 4] = [
-    ExpectedRow {
-        basic: 6,
-        entries: [4, 2, -1],
-        constant: 4,
-    },
-    ExpectedRow {
-        basic: 5,
-        entries: [-2, -2, 1],
-        constant: -3,
-    },
-    ExpectedRow {
-        basic: 1,
-        entries: [1, 1, 0],
-        constant: 1,
-    },
-    ExpectedRow {
-        basic: 3,
-        entries: [-2, -1, 1],
-        constant: -3,
-    },
+    (6, [4, 2, -1], 4),
+    (5, [-2, -2, 1], -3),
+    (1, [1, 1, 0], 1),
+    (3, [-2, -1, 1], -3),
 ];
 
-const ROW_DROPPED: [ExpectedRow; 3] = [
-    ExpectedRow {
-        basic: 3,
-        entries: [2, 1, -1],
-        constant: 1,
-    },
-    ExpectedRow {
-        basic: 5,
-        entries: [2, 0, -1],
-        constant: 1,
-    },
-    ExpectedRow {
-        basic: 1,
-        entries: [1, 1, 0],
-        constant: 1,
-    },
-];
+const ROW_DROPPED: [ExpectedRow; 3] = [(3, [2, 1, -1], 1), (5, [2, 0, -1], 1), (1, [1, 1, 0], 1)];
 
-const LAST_PIVOT: [ExpectedRow; 3] = [
-    ExpectedRow {
-        basic: 3,
-        entries: [2, 2, 0],
-        constant: 0,
-    },
-    ExpectedRow {
-        basic: 2,
-        entries: [1, 0, 1],
-        constant: -1,
-    },
-    ExpectedRow {
-        basic: 1,
-        entries: [1, 2, 1],
-        constant: 1,
-    },
-];
+const LAST_PIVOT: [ExpectedRow; 3] = [(3, [2, 2, 0], 0), (2, [1, 0, 1], -1), (1, [1, 2, 1], 1)];
 
 /// Three rows through pivots, with a row added and dropped in between.
 #[test]

@@ -6,6 +6,10 @@ use Rattle.std.proofs.lemmas.Bool.{cond-false, eqb-true, eqb-false, false_from_n
 use Rattle.minors.proofs.Ring.{sums, mul-add, mul_zero}
 use Rattle.least_index.specs.Dictionary.{sum_below}
 
+pub sum-suc : (f : ℕ → ℤ) (n : ℕ) → sum_below f (suc n) ≡ sum_below f n +ℤ f n
+unfolding sum_below
+sum-suc f n = refl
+
 pub sum-ext : (f g : ℕ → ℤ) (n : ℕ) → ((w : ℕ) → w < n → f w ≡ g w) → sum_below f n ≡ sum_below g n
 unfolding sum_below
 sum-ext f g zero h = refl

@@ -28,10 +28,6 @@ use Rattle.simplex.proofs.ByVariable.{equation_sum}
 use Rattle.simplex.proofs.Equations.{variables_distinct, variable_range, later_variable, later_weight, weight_of-none, weight_of-nonneg}
 use Rattle.simplex.proofs.Slacks.{slack_term, sum-skip}
 
-sum_suc : (f : ℕ → ℤ) (n : ℕ) → sum_below f (suc n) ≡ sum_below f n +ℤ f n
-unfolding sum_below
-sum_suc f n = refl
-
 pub sum_neg : (f : ℕ → ℤ) (n : ℕ) → sum_below (λ i. neg_ℤ (f i)) n ≡ neg_ℤ (sum_below f n)
 unfolding sum_below
 sum_neg f zero = refl

@@ -8,7 +8,7 @@ use Rattle.std.proofs.lemmas.List.Elements.{All-append, All-from_get_or, All-get
 use Rattle.std.specs.Cmp.Derive.{both_true}
 use Rattle.minors.proofs.Ring.{sums, mul_zero, zero_mul}
 use Rattle.least_index.specs.Dictionary.{sum_below}
-use Rattle.least_index.proofs.Sums.{sum-zero}
+use Rattle.least_index.proofs.Sums.{sum-suc, sum-zero}
 use Rattle.least_index.proofs.Choice.{and_left, and_right, positive, not_positive}
 use Rattle.fraction_free.specs.Dictionary.{DictionaryView, IsDictionary}
 use Rattle.simplex.specs.declared.row_weights.RowWeight.{RowWeight}
@@ -89,10 +89,6 @@ remaining_falls d row above v place is e =
 
 abbrev pub slack_term : DictionaryView → ℕ → (ℕ → ℤ) → ℕ → ℤ
 slack_term d row of variable = cond (nat_lt d.columns variable) (weight_of d row variable *ℤ of (variable - d.columns)) (pos 0)
-
-sum-suc : (f : ℕ → ℤ) (n : ℕ) → sum_below f (suc n) ≡ sum_below f n +ℤ f n
-unfolding sum_below
-sum-suc f n = refl
 
 pub sum-skip : (f : ℕ → ℤ) (n m : ℕ) → n ≤ m → ((i : ℕ) → n ≤ i → i < m → f i ≡ pos 0) → sum_below f m ≡ sum_below f n
 unfolding sum_below

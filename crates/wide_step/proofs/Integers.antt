@@ -5,6 +5,7 @@ use Rattle.std.proofs.lemmas.Nat.{mul-lt}
 use Rattle.std.specs.Int.{Width}
 use Rattle.std.specs.Int.RustNames.{int_div}
 use borrow.Author.Differences.{up, down, sum_is_lem, product_is, neg_is, same_in}
+use Rattle.wide_step.specs.Quotient.{HasQuotient}
 use mir.Val.{hbits}
 
 -- a factor goes into a sum
@@ -45,6 +46,9 @@ same_quotient p q e h =
 -- a number that is small enough is read from its bits as it was
 pub read_back : (w : Width) (z : ℤ) → unsigned_abs z < 2 ^ hbits w → to_z w (of_z w z) ≡ z
 read_back w z h = to_z-of_z w z (fits_signed_from_abs w z h)
+
+pub has_quotient_along : (x y e f : ℤ) → y ≡ x → f ≡ e → HasQuotient x e → HasQuotient y f
+has_quotient_along x y e f p q h = rw (p, q) h
 
 pub abs-mul-lt : (a b : ℤ) (m n : ℕ) → unsigned_abs a < m → unsigned_abs b < n → unsigned_abs (a *ℤ b) < m * n
 abs-mul-lt a b m n h k = omega (arith, unsigned_abs-mul a b, mul-lt (unsigned_abs a) (unsigned_abs b) m n h k)

@@ -2,7 +2,7 @@ use Rattle.std.proofs.Common.{◌≡◌, ◌∙◌, ◌<◌, ◌^◌, ℤ, to_z,
 use Rattle.std.specs.Int.{w128}
 use Rattle.std.proofs.lemmas.Int.{ints, fits_signed_from_abs}
 use Rattle.wide_step.specs.Quotient.{HasQuotient}
-use Rattle.wide_step.proofs.Integers.{read_back, products_back}
+use Rattle.wide_step.proofs.Integers.{read_back, products_back, has_quotient_along}
 use Rattle.wide_step.proofs.small_step.Goals as goal
 
 difference_size : (x y : ℤ) → unsigned_abs x < 2 ^ 124 → unsigned_abs y < 2 ^ 124 → unsigned_abs (x -ℤ y) < 2 ^ 125
@@ -30,9 +30,6 @@ pub exact_quotient-requires-clause-dividend_size :
 exact_quotient-requires-clause-dividend_size c =
     rw (difference_back c.small_product.result c.small_product-2.result c.small_product.ensures.size c.small_product-2.ensures.size)
     (omega (arith, difference_size c.small_product.result c.small_product-2.result c.small_product.ensures.size c.small_product-2.ensures.size))
-
-has_quotient_along : (x y e f : ℤ) → y ≡ x → f ≡ e → HasQuotient x e → HasQuotient y f
-has_quotient_along x y e f p q h = rw (p, q) h
 
 dividend_is : (c : goal.After-small_product-2) → to_z w128 (of_z w128 (to_z w128 (of_z w128 c.small_product.result) -ℤ to_z w128 (of_z w128 c.small_product-2.result))) ≡ c.args.a *ℤ c.args.b -ℤ c.args.c *ℤ c.args.d
 dividend_is c =

@@ -2,7 +2,7 @@ use Rattle.std.proofs.Common.{◌≡◌, ◌∙◌, ◌<◌, ◌^◌, ℤ, pos, 
 use Rattle.std.specs.Int.{w128}
 use Rattle.std.proofs.lemmas.Int.{ints}
 use Rattle.wide_step.specs.Quotient.{HasQuotient}
-use Rattle.wide_step.proofs.Integers.{read_back, products_back, neg-mul}
+use Rattle.wide_step.proofs.Integers.{read_back, products_back, has_quotient_along, neg-mul}
 use Rattle.std.proofs.Math.IntN.{*ℤ_comm}
 use lib.Signed.{lt_z}
 use Rattle.wide_step.proofs.step.Goals as goal
@@ -25,16 +25,13 @@ turned_back q e p r h = omega (arith, ints, *ℤ_comm q (neg_ℤ e), neg-mul e q
 swapped_back : (a b c d : ℤ) → unsigned_abs a < 2 ^ 120 → unsigned_abs b < 2 ^ 120 → unsigned_abs c < 2 ^ 120 → unsigned_abs d < 2 ^ 120 → to_z w128 (of_z w128 a) *ℤ to_z w128 (of_z w128 b) -ℤ to_z w128 (of_z w128 c) *ℤ to_z w128 (of_z w128 d) ≡ a *ℤ b -ℤ c *ℤ d
 swapped_back a b c d h k l m = products_back w128 a b c d (omega arith) (omega arith) (omega arith) (omega arith)
 
-has_along : (x y e f : ℤ) → y ≡ x → f ≡ e → HasQuotient x e → HasQuotient y f
-has_along x y e f p q h = rw (p, q) h
-
 pub wide_quotient-requires-clause-exact : goal.wide_quotient-requires-clause-exact
 wide_quotient-requires-clause-exact c =
     let w = c.requires.exact in
     let p = c.args.a *ℤ c.args.b in
     let r = c.args.c *ℤ c.args.d in
     let there : HasQuotient (r -ℤ p) (neg_ℤ c.args.e) = record { quotient = w.quotient; exact = turned w.quotient c.args.e p r w.exact; size = w.size } in
-    has_along (r -ℤ p) _ (neg_ℤ c.args.e) _ (swapped_back c.args.c c.args.d c.args.a c.args.b c.requires.c_size c.requires.d_size c.requires.a_size c.requires.b_size) (abs_is c) there
+    has_quotient_along (r -ℤ p) _ (neg_ℤ c.args.e) _ (swapped_back c.args.c c.args.d c.args.a c.args.b c.requires.c_size c.requires.d_size c.requires.a_size c.requires.b_size) (abs_is c) there
 
 quotient_turned : (q x f e p r : ℤ) → unsigned_abs q < 2 ^ 126 → x ≡ r -ℤ p → f ≡ neg_ℤ e → q *ℤ f ≡ x → to_z w128 (of_z w128 q) *ℤ e ≡ p -ℤ r
 quotient_turned q x f e p r q_size h k l =

@@ -5,7 +5,7 @@ use Rattle.wide_step.specs.Quotient.{HasQuotient}
 use Rattle.wide_step.proofs.Integers.{read_back}
 use Rattle.fraction_free.specs.Changes.{with_sign, number_at}
 use Rattle.fraction_free.proofs.Signs.{with_sign-mul, with_sign-abs, with_sign-difference}
-use Rattle.fraction_free.proofs.LineSteps.{IsExchangedTo, exchanged_more, exchanged_past_column, exchanged_all, stays}
+use Rattle.fraction_free.proofs.LineSteps.{IsExchangedTo, products, exchanged_more, exchanged_past_column, exchanged_all, stays}
 use Rattle.fraction_free.proofs.lines.Line.exchange.Goals as goal
 use Rattle.fraction_free.proofs.lines.Line.exchange.Goals.{then-place-column, else-place-column}
 
@@ -17,9 +17,6 @@ signed_back : (r s y a b : ℤ) → r ≡ with_sign (to_z w128 (of_z w128 s)) (t
 signed_back r s y a b h e f a_size b_size =
     let is : r ≡ with_sign a b = h ∙ ap (λ (z : ℤ). with_sign z (to_z w128 (of_z w128 y))) (number_back s a e a_size) ∙ ap (with_sign a) (number_back y b f b_size) in
     number_back r (with_sign a b) is (omega (arith, with_sign-abs a b))
-
-products : (a c d b w x y z : ℤ) → a ≡ w → c ≡ x → d ≡ y → b ≡ z → a *ℤ b -ℤ c *ℤ d ≡ w *ℤ z -ℤ x *ℤ y
-products a c d b w x y z f g i j = rw (f, g, i, j) refl
 
 -- with the entry's sign in entry and factor, the quotient has it too
 has_signed : (s p x f y entry factor other number : ℤ) → entry ≡ with_sign p p → factor ≡ with_sign p f → other ≡ y → number ≡ x → HasQuotient (p *ℤ x -ℤ f *ℤ y) s

@@ -1,12 +1,9 @@
 use Rattle.std.proofs.Common.{◌≡◌, ◌∙◌, ◌<◌, ◌^◌, ℕ, ℤ, pos, ◌*ℤ◌, ◌-ℤ◌, unsigned_abs, List, length, set, to_z, of_z, ap, arith}
 use Rattle.std.proofs.lemmas.List.{length-set, get_or-set_same, get_or-set_other}
 use Rattle.std.specs.Int.{w128}
-use Rattle.wide_step.proofs.Integers.{read_back}
 use Rattle.fraction_free.specs.Changes.{number_at, IsExchangedAt}
+use Rattle.fraction_free.proofs.UnitSteps.{small_back}
 use Rattle.fraction_free.proofs.lines.Line.exchange_at.Goals as goal
-
-small_back : (z : ℤ) → unsigned_abs z < 2 ^ 126 → to_z w128 (of_z w128 z) ≡ z
-small_back z h = read_back w128 z (omega arith)
 
 quotient_back : (q s a x b c d : ℤ) → x ≡ b → unsigned_abs a < 2 ^ 89 → unsigned_abs b < 2 ^ 89 → unsigned_abs c < 2 ^ 89 → unsigned_abs d < 2 ^ 89
     → q *ℤ s ≡ to_z w128 (of_z w128 a) *ℤ to_z w128 (of_z w128 x) -ℤ to_z w128 (of_z w128 c) *ℤ to_z w128 (of_z w128 d)
