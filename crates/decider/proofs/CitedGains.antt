@@ -7,7 +7,7 @@ use Rattle.std.proofs.lemmas.Option.{get_or_from_slice_get, slice_get_within, sl
 use Rattle.std.proofs.lemmas.List.{get_or_append_left, get_or-append-add, length-append}
 use Rattle.std.proofs.lemmas.List.Elements.{All-nil, All-cons, All-append, All-head, All-tail}
 use Rattle.std.proofs.lemmas.List.Sums.{sum_by-cons}
-use Rattle.minors.proofs.Ring.{sums, mul-add, mul_assoc, mul_zero}
+use Rattle.row_laws.proofs.Integers.{sums, mul-add, mul_assoc, mul-zero}
 use Rattle.criteria_model.specs.declared.pairs.Pair.{Pair}
 use Rattle.criteria_model.specs.declared.pairs.Answer.{Answer}
 use Rattle.criteria_model.specs.declared.pairs.Side.{Side}
@@ -202,7 +202,7 @@ length-total levels answers own (cite ∷ cites) len fit there =
     gain_length = ap length (gain_is levels answers cite f.0 f.1) ∙ length-gain levels f.0.pair f.0.side fits
 
 pub cited_sum-times : (of : ℕ → ℤ) (d : ℤ) (cites : List Cite) → cited_sum of (times_cites d cites) ≡ d *ℤ cited_sum of cites
-cited_sum-times of d [] = sym (mul_zero d)
+cited_sum-times of d [] = sym (mul-zero d)
 cited_sum-times of d (cite ∷ cites) =
     ap (λ (s : ℤ). (d *ℤ cite.weight) *ℤ of cite.answer +ℤ s) (cited_sum-times of d cites)
     ∙ ap (λ (n : ℤ). n +ℤ d *ℤ cited_sum of cites) (mul_assoc d cite.weight (of cite.answer))

@@ -4,7 +4,7 @@ use Rattle.std.specs.Prelude.{All, Any}
 use Rattle.std.proofs.lemmas.Int.{ints}
 use Rattle.std.proofs.lemmas.List.{get_or_append_left}
 use Rattle.std.proofs.lemmas.List.Elements.{All-head, All-tail}
-use Rattle.minors.proofs.Ring.{sums, mul_zero}
+use Rattle.row_laws.proofs.Integers.{sums, mul-zero}
 use Rattle.row_laws.specs.Rows.{dot, plus, times}
 use Rattle.row_laws.proofs.Signs.{mul_nonneg, mul_positive}
 use Rattle.row_laws.proofs.RowLemmas.{dot-plus, dot-times}
@@ -29,8 +29,8 @@ get_or-plus (x ∷ a) (y ∷ b) zero = refl
 get_or-plus (x ∷ a) (y ∷ b) (suc j) = get_or-plus a b j
 
 pub get_or-times : (k : ℤ) (a : List ℤ) (j : ℕ) → get_or (times k a) j (pos 0) ≡ k *ℤ get_or a j (pos 0)
-get_or-times k [] zero = sym (mul_zero k)
-get_or-times k [] (suc j) = sym (mul_zero k)
+get_or-times k [] zero = sym (mul-zero k)
+get_or-times k [] (suc j) = sym (mul-zero k)
 get_or-times k (x ∷ a) zero = refl
 get_or-times k (x ∷ a) (suc j) = get_or-times k a j
 
@@ -65,7 +65,7 @@ dot_zeros : (p xs : List ℤ) → ((j : ℕ) → j < length p → get_or xs j (p
 dot_zeros [] xs h = refl
 dot_zeros (x ∷ p) [] h = refl
 dot_zeros (x ∷ p) (y ∷ xs) h =
-    ap (λ (n : ℤ). x *ℤ n +ℤ dot p xs) (h 0 (omega arith)) ∙ ap (λ (n : ℤ). n +ℤ dot p xs) (mul_zero x) ∙ ap (λ (n : ℤ). pos 0 +ℤ n) (dot_zeros p xs (λ j lt. h (suc j) (omega arith)))
+    ap (λ (n : ℤ). x *ℤ n +ℤ dot p xs) (h 0 (omega arith)) ∙ ap (λ (n : ℤ). n +ℤ dot p xs) (mul-zero x) ∙ ap (λ (n : ℤ). pos 0 +ℤ n) (dot_zeros p xs (λ j lt. h (suc j) (omega arith)))
 
 -- by any vector the weights of a clash sum to 0
 pub clash_value : (columns : ℕ) (loaded : List LoadedRow) (clash : Clash) (p : List ℤ) → IsClash columns loaded clash → length p ≡ columns

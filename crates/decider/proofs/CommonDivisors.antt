@@ -8,7 +8,7 @@ use Rattle.std.proofs.lemmas.Int.{ints}
 use Rattle.std.proofs.lemmas.Nat.Gcd.{dvd_trans}
 use Rattle.std.proofs.lemmas.List.{get_or-map, length-map, length-take-le, map-append, take_more, take_all}
 use Rattle.std.proofs.lemmas.List.Elements.{All-cons, All-head, All-tail, All-append, All-map, All-from_get_or}
-use Rattle.minors.proofs.Ring.{mul_zero}
+use Rattle.row_laws.proofs.Integers.{mul-zero}
 use Rattle.farkas_check.specs.declared.cites.Cite.{Cite}
 use Rattle.farkas_check.specs.Cited.{IsCite, AreCites, no_cite}
 use Rattle.simplex.specs.Weights.{is_weight}
@@ -106,7 +106,7 @@ quotient_weighs : (g q w : ℤ) → g *ℤ q ≡ w → w ≢ pos 0 → is_weight
 quotient_weighs g q w e ne = from q refl
   where
     from : (p : ℤ) → q ≡ p → is_weight p ≡ true
-    from (pos zero) z = absurd (ne (sym e ∙ ap (λ (n : ℤ). g *ℤ n) z ∙ mul_zero g))
+    from (pos zero) z = absurd (ne (sym e ∙ ap (λ (n : ℤ). g *ℤ n) z ∙ mul-zero g))
     from (pos (suc p)) z = refl
     from (negsuc p) z = refl
 
@@ -144,7 +144,7 @@ are_divided divisor cites list positive e are = record {
     quotient_is_cite : (old new : Cite) → old ≡ record { answer = new.answer; weight = divisor *ℤ new.weight } → IsCite old → IsCite new
     quotient_is_cite old new f is = record {
       numbered = subst (λ (n : ℕ). 1 ≤ n) (ap (λ (c : Cite). c.answer) f) is.numbered;
-      weighed = λ z. is.weighed (ap (λ (c : Cite). c.weight) f ∙ ap (λ (n : ℤ). divisor *ℤ n) z ∙ mul_zero divisor);
+      weighed = λ z. is.weighed (ap (λ (c : Cite). c.weight) f ∙ ap (λ (n : ℤ). divisor *ℤ n) z ∙ mul-zero divisor);
       within = let small = factor_small divisor new.weight old.weight positive (sym (ap (λ (c : Cite). c.weight) f)) in omega (arith, is.within);
     }
 

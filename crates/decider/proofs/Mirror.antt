@@ -3,7 +3,7 @@ use Rattle.std.proofs.Common.{◌≡◌, ℕ, ◌+◌, ◌*◌, ◌<◌, ◌≤�
 use Rattle.std.specs.Prelude.{All}
 use Rattle.std.proofs.lemmas.Int.{ints}
 use Rattle.std.proofs.lemmas.List.Elements.{All-nil, All-cons, All-head, All-tail}
-use Rattle.minors.proofs.Ring.{mul_zero}
+use Rattle.row_laws.proofs.Integers.{mul-zero}
 use Rattle.criteria_model.specs.declared.pairs.Pair.{Pair}
 use Rattle.criteria_model.specs.declared.pairs.Answer.{Answer}
 use Rattle.criteria_model.specs.declared.pairs.Side.{Side}
@@ -36,7 +36,7 @@ above k x y lt h = step (pos k *ℤ x) (at_least_factor k x h)
     step a g = omega (arith, ints)
 
 level : (k : ℕ) (x y : ℤ) → x ≡ pos 0 → y ≡ pos 0 → pos k *ℤ x -ℤ y ≡ pos 0
-level k x y e f = step (pos k *ℤ x) y (ap (λ (n : ℤ). pos k *ℤ n) e ∙ mul_zero (pos k)) f
+level k x y e f = step (pos k *ℤ x) y (ap (λ (n : ℤ). pos k *ℤ n) e ∙ mul-zero (pos k)) f
   where
     step : (a b : ℤ) → a ≡ pos 0 → b ≡ pos 0 → a -ℤ b ≡ pos 0
     step a b e f = omega (arith, ints)

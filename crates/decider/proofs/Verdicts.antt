@@ -6,7 +6,7 @@ use Rattle.std.proofs.lemmas.Bool.{cases_Bool, eqb-true, eqb-false, ltb-true, lt
 use Rattle.std.proofs.lemmas.List.{ext_get_or, get_or-map, length-map, length-append, length-take-le, take_more, take_all, append-nil}
 use Rattle.std.proofs.lemmas.List.Sums.{sum_by-append, sum_by-cons, count_by-le-length}
 use Rattle.std.proofs.lemmas.List.Elements.{All-from_get_or}
-use Rattle.minors.proofs.Ring.{sums, mul-add, mul-neg, mul_assoc, mul_zero, cancel}
+use Rattle.row_laws.proofs.Integers.{sums, mul-add, mul-neg, mul_assoc, mul-zero, cancel}
 use Rattle.criteria_model.specs.declared.pairs.Pair.{Pair}
 use Rattle.criteria_model.specs.declared.pairs.Answer.{Answer}
 use Rattle.criteria_model.specs.declared.pairs.Side.{Side}
@@ -241,8 +241,8 @@ module _ (levels : List ℕ) (answers : List Answer) (pair : Pair) (side : Side)
           from : (is_weight (d *ℤ x) ≡ true) ⊎ (is_weight (d *ℤ x) ≡ false) → (is_weight x ≡ true) ⊎ (is_weight x ≡ false) → is_weight (d *ℤ x) ≡ is_weight x
           from (inl e) (inl f) = e ∙ sym f
           from (inr e) (inr f) = e ∙ sym f
-          from (inl e) (inr f) = ap is_weight (ap (λ (n : ℤ). d *ℤ n) (zero_of x f) ∙ mul_zero d) ∙ sym f
-          from (inr e) (inl f) = e ∙ sym (ap is_weight (cancel d x (pos 0) divisor_nonzero (zero_of (d *ℤ x) e ∙ sym (mul_zero d))))
+          from (inl e) (inr f) = ap is_weight (ap (λ (n : ℤ). d *ℤ n) (zero_of x f) ∙ mul-zero d) ∙ sym f
+          from (inr e) (inl f) = e ∙ sym (ap is_weight (cancel d x (pos 0) divisor_nonzero (zero_of (d *ℤ x) e ∙ sym (mul-zero d))))
 
       count_times : (xs : List ℤ) → count_by is_weight (times d xs) ≡ count_by is_weight xs
       count_times [] = refl

@@ -5,7 +5,7 @@ use Rattle.std.specs.Prelude.{◌==◌, slice_index}
 use Rattle.std.proofs.lemmas.Int.{ints}
 use Rattle.std.proofs.lemmas.Bool.{cases_Bool, eqb-true, eqb-false, true≢false}
 use Rattle.std.proofs.lemmas.List.{get_or-map, length-map, take_more}
-use Rattle.minors.proofs.Ring.{sums, mul-neg, sub-mul}
+use Rattle.row_laws.proofs.Integers.{sums, mul-neg, sub-mul}
 use Rattle.criteria_model.specs.declared.pairs.Side.{Side}
 use Rattle.criteria_model.specs.declared.pairs.Side.TheVariants.{Equal}
 use Rattle.simplex.specs.declared.row_weights.RowWeight.{RowWeight}

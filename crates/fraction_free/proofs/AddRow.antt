@@ -3,8 +3,8 @@ use Rattle.std.proofs.Common.{◌≡◌, ◌∙◌, ◌⊎◌, inl, inr, ℕ, su
 use Rattle.std.proofs.lemmas.List.{get_or_append_left, get_or_at, length_push, take-append-le, drop-append-le, length-take-le, get_or-take}
 use Rattle.std.proofs.lemmas.Bool.{cases_eq, cases_lt}
 use Rattle.minors.specs.Combination.{IsCombination, IsScale}
-use Rattle.minors.specs.Combination.{dot as dot_of}
-use Rattle.minors.proofs.Ring.{cancel}
+use Rattle.row_laws.specs.Rows.{dot}
+use Rattle.row_laws.proofs.Integers.{cancel}
 use Rattle.fraction_free.specs.declared.loaded.LoadedRow.{LoadedRow}
 use Rattle.fraction_free.specs.Arrangement.{IsArrangement, Arranged}
 use Rattle.fraction_free.specs.Changes.{AddsRow, next_count}
@@ -121,8 +121,8 @@ added_solutions m l s order lines row line a b e f g h x t new loadable comb sol
     old i below =
         ap (λ k. s *ℤ x k) (sym (get_or_append_left order (length order ∷ []) 0 (m + 1 + i) (omega (arith, t.order_len))))
         ∙ all i (omega (arith, length_push l row))
-        ∙ ap (λ (f : List ℤ). dot_of f (map x (take (m + 1) longer))) (get_or_append_left lines (line ∷ []) [] i (omega (arith, t.lines_len)))
-        ∙ ap (λ vs. dot_of (get_or lines i []) (map x vs)) columns
+        ∙ ap (λ (f : List ℤ). dot f (map x (take (m + 1) longer))) (get_or_append_left lines (line ∷ []) [] i (omega (arith, t.lines_len)))
+        ∙ ap (λ vs. dot (get_or lines i []) (map x vs)) columns
 
     slacks : HasSlacks m l x
     slacks = solutions (satisfies_from m l s order lines a b e f x t.order_len t.constant old)
@@ -131,8 +131,8 @@ added_solutions m l s order lines row line a b e f g h x t new loadable comb sol
     last =
         ap (λ k. s *ℤ x k) (sym (get_or_at order (length order) [] 0 (m + 1 + length l) t.order_len))
         ∙ all (length l) (omega (arith, length_push l row))
-        ∙ ap (λ (f : List ℤ). dot_of f (map x (take (m + 1) longer))) (get_or_at lines line [] [] (length l) t.lines_len)
-        ∙ ap (λ vs. dot_of line (map x vs)) columns
+        ∙ ap (λ (f : List ℤ). dot f (map x (take (m + 1) longer))) (get_or_at lines line [] [] (length l) t.lines_len)
+        ∙ ap (λ vs. dot line (map x vs)) columns
         ∙ sym (combination_value m l s order x (row_of row) line t.order_len t.variables t.rows slacks comb)
         ∙ ap (λ (n : ℤ). s *ℤ n) (slack_value m row x loadable.len)
 

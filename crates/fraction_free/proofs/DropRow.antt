@@ -6,15 +6,13 @@ use Rattle.std.proofs.lemmas.List.FromFn.{length-range_with_len, get_or-range_wi
 use Rattle.std.proofs.lemmas.Bool.Decides.{nat_tests}
 use Rattle.std.specs.List.{SwappedAt, range_with_len, swap_remove}
 use Rattle.minors.specs.Combination.{IsScale}
-use Rattle.minors.specs.Combination.{dot as dot_of}
-use Rattle.minors.proofs.Ring.{cancel, mul-add, mul_swap, mul_zero, zero_mul, mul-sub, sums}
+use Rattle.row_laws.proofs.Integers.{cancel, mul-add, mul_left_comm, mul-zero, zero-mul, mul-sub, sums}
 use Rattle.row_laws.specs.Rows.{dot}
 use Rattle.fraction_free.specs.declared.loaded.LoadedRow.{LoadedRow}
 use Rattle.fraction_free.specs.Arrangement.{IsArrangement, Arranged}
 use Rattle.fraction_free.specs.Dictionary.{IsLoadable, HasSlacks, loaded_at, no_row, slack_of, vector_of}
 use Rattle.fraction_free.specs.Changes.{DropsRow}
 use Rattle.fraction_free.specs.Representation.{table_row, square_of, view_of, AreMinors, IsRepresentation}
-use Rattle.fraction_free.proofs.Values.{same_dot}
 use Rattle.fraction_free.proofs.AddRow.{BeginsWith, table_row_same, square_same, moved}
 use Rattle.fraction_free.proofs.PivotKept.{Equations, equations_of, satisfies_from}
 
@@ -83,8 +81,8 @@ pub swapped_equations : (m count : ℕ) (s : ℤ) (order : List ℕ) (lines : Li
     → AreRowsSwapped m order lines new_order new_lines first second → length lines ≡ count → Equations m count s new_order new_lines x → Equations m count s order lines x
 swapped_equations m count s order lines new_order new_lines first second x h len e row below =
     let to = target m order lines new_order new_lines first second h row (omega arith) in
-    ap (λ k. s *ℤ x k) (sym to.2) ∙ e to.0 (omega (arith, to.1)) ∙ ap (λ (f : List ℤ). dot_of f (map x (take (m + 1) new_order))) to.3
-    ∙ ap (λ vs. dot_of (get_or lines row []) (map x vs)) (same_columns m order lines new_order new_lines first second h)
+    ap (λ k. s *ℤ x k) (sym to.2) ∙ e to.0 (omega (arith, to.1)) ∙ ap (λ (f : List ℤ). dot f (map x (take (m + 1) new_order))) to.3
+    ∙ ap (λ vs. dot (get_or lines row []) (map x vs)) (same_columns m order lines new_order new_lines first second h)
 
 -- ---- the last row gone, whose variable is the last slack
 
@@ -127,14 +125,14 @@ popped_minors m l s order lines k t len arranged = record {
     squares = square_same m (take k l) l (take (m + 1 + k) order) order begins (o_len ∙ omega (arith, l_len)) (sym (take-take (m + 1) (m + 1 + k) order (omega arith))) arranged.below
 
 -- sums of multiples
-dot_scaled : (s : ℤ) (x y : ℕ → ℤ) (f : List ℤ) (vs : List ℕ) → ((k : ℕ) → k < length vs → y (get_or vs k 0) ≡ s *ℤ x (get_or vs k 0)) → dot_of f (map y vs) ≡ s *ℤ dot_of f (map x vs)
-dot_scaled s x y [] vs h = sym (mul_zero s)
-dot_scaled s x y (c ∷ f) [] h = sym (mul_zero s)
+dot_scaled : (s : ℤ) (x y : ℕ → ℤ) (f : List ℤ) (vs : List ℕ) → ((k : ℕ) → k < length vs → y (get_or vs k 0) ≡ s *ℤ x (get_or vs k 0)) → dot f (map y vs) ≡ s *ℤ dot f (map x vs)
+dot_scaled s x y [] vs h = sym (mul-zero s)
+dot_scaled s x y (c ∷ f) [] h = sym (mul-zero s)
 dot_scaled s x y (c ∷ f) (v ∷ vs) h =
-    ap (λ (n : ℤ). c *ℤ n +ℤ dot_of f (map y vs)) (h 0 (omega arith))
+    ap (λ (n : ℤ). c *ℤ n +ℤ dot f (map y vs)) (h 0 (omega arith))
     ∙ ap (λ (n : ℤ). c *ℤ (s *ℤ x v) +ℤ n) (dot_scaled s x y f vs (λ k below. h (suc k) (omega arith)))
-    ∙ ap (λ (n : ℤ). n +ℤ s *ℤ dot_of f (map x vs)) (mul_swap c s (x v))
-    ∙ sym (mul-add s (c *ℤ x v) (dot_of f (map x vs)))
+    ∙ ap (λ (n : ℤ). n +ℤ s *ℤ dot f (map x vs)) (mul_left_comm c s (x v))
+    ∙ sym (mul-add s (c *ℤ x v) (dot f (map x vs)))
 
 slack_scaled : (m : ℕ) (row : LoadedRow) (s : ℤ) (x y : ℕ → ℤ) → ((v : ℕ) → v ≤ m → y v ≡ s *ℤ x v) → slack_of m row y ≡ s *ℤ slack_of m row x
 slack_scaled m row s x y h =
@@ -144,9 +142,8 @@ slack_scaled m row s x y h =
     ap (λ (n : ℤ). n +ℤ y 0) (h (get_or (range_with_len 1 m) k 0) v) ∙ ap (λ (n : ℤ). s *ℤ x (get_or (range_with_len 1 m) k 0) +ℤ n) (h 0 (omega arith))
     ∙ sym (mul-add s (x (get_or (range_with_len 1 m) k 0)) (x 0))) in
     ap (λ (n : ℤ). n -ℤ row.least *ℤ y 0)
-    (same_dot row.coefficients (vector_of m y) ∙ dot_scaled s (λ j. x j +ℤ x 0) (λ j. y j +ℤ y 0) row.coefficients (range_with_len 1 m) plus
-    ∙ ap (λ (n : ℤ). s *ℤ n) (sym (same_dot row.coefficients (vector_of m x))))
-    ∙ ap (λ (n : ℤ). s *ℤ dot row.coefficients (vector_of m x) -ℤ n) (ap (λ (n : ℤ). row.least *ℤ n) (h 0 (omega arith)) ∙ mul_swap row.least s (x 0))
+    (dot_scaled s (λ j. x j +ℤ x 0) (λ j. y j +ℤ y 0) row.coefficients (range_with_len 1 m) plus)
+    ∙ ap (λ (n : ℤ). s *ℤ dot row.coefficients (vector_of m x) -ℤ n) (ap (λ (n : ℤ). row.least *ℤ n) (h 0 (omega arith)) ∙ mul_left_comm row.least s (x 0))
     ∙ sym (mul-sub s (dot row.coefficients (vector_of m x)) (row.least *ℤ x 0))
 
 -- what satisfies the shorter dictionary, times the scale and with a value for the last slack, satisfies the longer one
@@ -162,7 +159,7 @@ popped_solutions m l s order lines k x t len last solutions h = record { each = 
     columns = take (m + 1) order
 
     value : ℤ
-    value = dot_of (get_or lines k []) (map x columns)
+    value = dot (get_or lines k []) (map x columns)
 
     y : ℕ → ℤ
     y v = cond (eqb v n) value (s *ℤ x v)
@@ -177,23 +174,23 @@ popped_solutions m l s order lines k x t len last solutions h = record { each = 
     not_last at below e =
         absurd (omega (arith, sym (t.variables.back at (omega (arith, t.order_len))) ∙ ap t.variables.place (e ∙ sym last) ∙ t.variables.back n (omega (arith, t.order_len))))
 
-    scaled : (f : List ℤ) → dot_of f (map y columns) ≡ s *ℤ dot_of f (map x columns)
+    scaled : (f : List ℤ) → dot f (map y columns) ≡ s *ℤ dot f (map x columns)
     scaled f = dot_scaled s x y f columns
         (λ j below.
         let j_in : j < m + 1 = omega (arith, length-take-le (m + 1) order (omega (arith, t.order_len))) in
         y_other (get_or columns j 0) (λ e. not_last j (omega arith) (sym (get_or-take (m + 1) order j 0 j_in) ∙ e)))
 
-    equation : (row : ℕ) → (row ≡ k) ⊎ (row ≢ k) → row < length l → s *ℤ y (get_or order (m + 1 + row) 0) ≡ dot_of (get_or lines row []) (map y columns)
+    equation : (row : ℕ) → (row ≡ k) ⊎ (row ≢ k) → row < length l → s *ℤ y (get_or order (m + 1 + row) 0) ≡ dot (get_or lines row []) (map y columns)
     equation row (inl e) below =
         ap (λ (z : ℤ). s *ℤ z) (y_last (get_or order (m + 1 + row) 0) (ap (λ i. get_or order (m + 1 + i) 0) e ∙ last))
-        ∙ sym (scaled (get_or lines k [])) ∙ ap (λ i. dot_of (get_or lines i []) (map y columns)) (sym e)
+        ∙ sym (scaled (get_or lines k [])) ∙ ap (λ i. dot (get_or lines i []) (map y columns)) (sym e)
     equation row (inr ne) below =
         let inside : row < k = omega arith in
         ap (λ (z : ℤ). s *ℤ z) (y_other (get_or order (m + 1 + row) 0) (not_last (m + 1 + row) (omega arith)))
         ∙ ap (λ (z : ℤ). s *ℤ z)
         (ap (λ v. s *ℤ x v) (sym (get_or-take n order (m + 1 + row) 0 (omega arith))) ∙ h row inside
-        ∙ ap (λ (f : List ℤ). dot_of f (map x (take (m + 1) (take n order)))) (get_or-take k lines row [] inside)
-        ∙ ap (λ vs. dot_of (get_or lines row []) (map x vs)) (take-take (m + 1) n order (omega arith)))
+        ∙ ap (λ (f : List ℤ). dot f (map x (take (m + 1) (take n order)))) (get_or-take k lines row [] inside)
+        ∙ ap (λ vs. dot (get_or lines row []) (map x vs)) (take-take (m + 1) n order (omega arith)))
         ∙ sym (scaled (get_or lines row []))
 
     slacks : HasSlacks m l y
@@ -273,23 +270,23 @@ dropped_row m l new_l s order mid_order new_order lines mid_lines new_lines a b 
 
 -- ---- a nonbasic slack has a row with an entry that isn't 0
 
-dot_none : (x : ℕ → ℤ) (f : List ℤ) (vs : List ℕ) → ((k : ℕ) → k < length vs → (get_or f k (pos 0) ≡ pos 0) ⊎ (x (get_or vs k 0) ≡ pos 0)) → dot_of f (map x vs) ≡ pos 0
+dot_none : (x : ℕ → ℤ) (f : List ℤ) (vs : List ℕ) → ((k : ℕ) → k < length vs → (get_or f k (pos 0) ≡ pos 0) ⊎ (x (get_or vs k 0) ≡ pos 0)) → dot f (map x vs) ≡ pos 0
 dot_none x [] vs h = refl
 dot_none x (c ∷ f) [] h = refl
-dot_none x (c ∷ f) (v ∷ vs) h = none (c *ℤ x v) (dot_of f (map x vs)) (product (h 0 (omega arith))) (dot_none x f vs (λ k below. h (suc k) (omega arith)))
+dot_none x (c ∷ f) (v ∷ vs) h = none (c *ℤ x v) (dot f (map x vs)) (product (h 0 (omega arith))) (dot_none x f vs (λ k below. h (suc k) (omega arith)))
   where
     none : (p q : ℤ) → p ≡ pos 0 → q ≡ pos 0 → p +ℤ q ≡ pos 0
     none p q i j = omega (arith, sums)
 
     product : (c ≡ pos 0) ⊎ (x v ≡ pos 0) → c *ℤ x v ≡ pos 0
-    product (inl e) = ap (λ (n : ℤ). n *ℤ x v) e ∙ zero_mul (x v)
-    product (inr e) = ap (λ (n : ℤ). c *ℤ n) e ∙ mul_zero c
+    product (inl e) = ap (λ (n : ℤ). n *ℤ x v) e ∙ zero-mul (x v)
+    product (inr e) = ap (λ (n : ℤ). c *ℤ n) e ∙ mul-zero c
 
 pub slack_has_entry : (m : ℕ) (l : List LoadedRow) (s : ℤ) (order : List ℕ) (lines : List (List ℤ)) (column k : ℕ) → AreMinors m l s order lines → length l ≡ k + 1 → column < m
     → get_or order column 0 ≡ m + 1 + k → ((y : ℕ → ℤ) → Equations m (length l) s order lines y → HasSlacks m l y)
     → ((row : ℕ) → row < length l → get_or (get_or lines row []) column (pos 0) ≡ pos 0) → ⊥
 slack_has_entry m l s order lines column k t len below is solutions zeros =
-    one_apart (sym (x_last (m + 1 + k) refl) ∙ slacks.each k (omega arith) ∙ slack_scaled m (loaded_at l k) (pos 0) x x (λ v small. x_other v (omega arith) ∙ sym (zero_mul (x v))) ∙ zero_mul (slack_of m (loaded_at l k) x))
+    one_apart (sym (x_last (m + 1 + k) refl) ∙ slacks.each k (omega arith) ∙ slack_scaled m (loaded_at l k) (pos 0) x x (λ v small. x_other v (omega arith) ∙ sym (zero-mul (x v))) ∙ zero-mul (slack_of m (loaded_at l k) x))
   where
     n : ℕ
     n = m + 1 + k
@@ -320,7 +317,7 @@ slack_has_entry m l s order lines column k t len below is solutions zeros =
     slacks : HasSlacks m l x
     slacks = solutions x
         (λ row inside.
-        ap (λ (z : ℤ). s *ℤ z) (x_other (get_or order (m + 1 + row) 0) (apart (m + 1 + row) (omega (arith, t.order_len)) (omega arith))) ∙ mul_zero s
+        ap (λ (z : ℤ). s *ℤ z) (x_other (get_or order (m + 1 + row) 0) (apart (m + 1 + row) (omega (arith, t.order_len)) (omega arith))) ∙ mul-zero s
         ∙ sym (dot_none x (get_or lines row []) (take (m + 1) order) (factor row inside)))
 
 -- so the first row with an entry that isn't 0 is there

@@ -4,15 +4,15 @@ use Rattle.std.proofs.lemmas.List.{length-take-le, length-drop, get_or-drop, tak
 use Rattle.std.proofs.lemmas.Bool.{cases_eq, cases_lt}
 use Rattle.std.specs.List.{All}
 use Rattle.wide_step.specs.Quotient.{HasQuotient}
-use Rattle.minors.specs.Minor.{entry, minor, HasSmallEntries}
+use Rattle.minors.specs.Minor.{minor, HasSmallEntries}
 use Rattle.minors.proofs.Laws.{factor_is_bounded, minor_is_bounded, scale_is_bounded, bound_is_small, pivot_divides}
-use Rattle.row_laws.specs.Rows.{dot}
+use Rattle.row_laws.specs.Rows.{dot, entry}
 use Rattle.fraction_free.specs.declared.loaded.LoadedRow.{LoadedRow}
 use Rattle.fraction_free.specs.Arrangement.{IsArrangement, Arranged}
 use Rattle.fraction_free.specs.Dictionary.{IsDictionary, HasSlacks, Satisfies, max_number}
 use Rattle.fraction_free.specs.Representation.{table_row, square_of, view_of, AreMinors, IsRepresentation, CanExchange}
 use Rattle.fraction_free.proofs.Table.{square_small, length-square, table_row_small}
-use Rattle.fraction_free.proofs.Values.{same_dot, combination_value, variable_value}
+use Rattle.fraction_free.proofs.Values.{combination_value, variable_value}
 
 -- the variables of the columns and of the constant are the first of the order
 pub columns_and_constant : (m : ℕ) (order : List ℕ) → m < length order → get_or order m 0 ≡ 0 → take m order ++ 0 ∷ [] ≡ take (m + 1) order
@@ -33,7 +33,6 @@ satisfied m l s order lines a b c d x t h = record {
       ap (λ k. s *ℤ x k) variable
       ∙ ap (λ (n : ℤ). s *ℤ n) (sym value)
       ∙ combination_value m l s order x (table_row m l (get_or order (m + 1 + row) 0)) (get_or lines row []) t.order_len t.variables t.rows h (t.lines_are row inside)
-      ∙ sym (same_dot (get_or lines row []) (map x (take (m + 1) order)))
       ∙ ap (λ vs. dot (get_or lines row []) (map x vs)) (sym (columns_and_constant m order (omega (arith, t.order_len)) t.constant));
 }
 

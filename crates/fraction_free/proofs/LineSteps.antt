@@ -5,15 +5,16 @@ use Rattle.std.proofs.lemmas.Bool.{cases_eq}
 use Rattle.std.proofs.lemmas.Int.{ints}
 use Rattle.std.proofs.Math.IntN.{*ℤ_comm, zero-*ℤ}
 use Rattle.fraction_free.proofs.Signs.{with_sign-twice, with_sign-zero, with_sign-difference}
-use Rattle.fraction_free.specs.Changes.{with_sign, number_at, IsOtherLine, IsPivotLine, IsExchangedAt}
+use Rattle.row_laws.specs.Rows.{entry}
+use Rattle.fraction_free.specs.Changes.{with_sign, IsOtherLine, IsPivotLine, IsExchangedAt}
 
 -- the numbers before a place are those after a pivot on another row, but for the column's, and the others are as they were
 pub record IsExchangedTo (scale : ℤ) (column : ℕ) (pivot old now : List ℤ) (place : ℕ) : Type 0 where
   pub len : length now ≡ length old
   pub divided : (other : ℕ) → other < place → other ≢ column
-      → number_at now other *ℤ scale ≡ with_sign (number_at pivot column) (number_at pivot column *ℤ number_at old other -ℤ number_at old column *ℤ number_at pivot other)
-  pub rest : (other : ℕ) → place ≤ other → number_at now other ≡ number_at old other
-  pub column_kept : number_at now column ≡ number_at old column
+      → entry now other *ℤ scale ≡ with_sign (entry pivot column) (entry pivot column *ℤ entry old other -ℤ entry old column *ℤ entry pivot other)
+  pub rest : (other : ℕ) → place ≤ other → entry now other ≡ entry old other
+  pub column_kept : entry now column ≡ entry old column
 
 pub exchanged_none : (scale : ℤ) (column : ℕ) (pivot old : List ℤ) → IsExchangedTo scale column pivot old old 0
 exchanged_none scale column pivot old = record { len = refl; divided = λ other below apart. absurd (omega arith); rest = λ other h. refl; column_kept = refl }
@@ -21,21 +22,21 @@ exchanged_none scale column pivot old = record { len = refl; divided = λ other 
 pub products : (a c d b w x y z : ℤ) → a ≡ w → c ≡ x → d ≡ y → b ≡ z → a *ℤ b -ℤ c *ℤ d ≡ w *ℤ z -ℤ x *ℤ y
 products a c d b w x y z f g i j = rw (f, g, i, j) refl
 
-pub exchanged_more : (scale : ℤ) (column : ℕ) (pivot old now new : List ℤ) (place : ℕ) (entry factor other : ℤ) → IsExchangedTo scale column pivot old now place → place ≢ column
-    → entry ≡ with_sign (number_at pivot column) (number_at pivot column) → factor ≡ with_sign (number_at pivot column) (number_at old column) → other ≡ number_at pivot place
-    → IsExchangedAt scale entry factor other now new place → IsExchangedTo scale column pivot old new (place + 1)
-exchanged_more scale column pivot old now new place entry factor number h apart i j k e =
-    let p = number_at pivot column in
-    let here : number_at new place *ℤ scale ≡ with_sign p (p *ℤ number_at old place -ℤ number_at old column *ℤ number_at pivot place) =
-    e.divided ∙ products entry factor number (number_at now place) _ _ _ _ i j k (h.rest place (omega arith))
-    ∙ with_sign-difference p (number_at old place) (number_at old column) (number_at pivot place) in
+pub exchanged_more : (scale : ℤ) (column : ℕ) (pivot old now new : List ℤ) (place : ℕ) (lead factor other : ℤ) → IsExchangedTo scale column pivot old now place → place ≢ column
+    → lead ≡ with_sign (entry pivot column) (entry pivot column) → factor ≡ with_sign (entry pivot column) (entry old column) → other ≡ entry pivot place
+    → IsExchangedAt scale lead factor other now new place → IsExchangedTo scale column pivot old new (place + 1)
+exchanged_more scale column pivot old now new place lead factor number h apart i j k e =
+    let p = entry pivot column in
+    let here : entry new place *ℤ scale ≡ with_sign p (p *ℤ entry old place -ℤ entry old column *ℤ entry pivot place) =
+    e.divided ∙ products lead factor number (entry now place) _ _ _ _ i j k (h.rest place (omega arith))
+    ∙ with_sign-difference p (entry old place) (entry old column) (entry pivot place) in
     record {
       len = e.len ∙ h.len;
       divided = λ other below not_column.
           elim (cases_eq other place) [
             | inl same ↦
-                ap (λ at. number_at new at *ℤ scale) same ∙ here
-                ∙ ap (λ at. with_sign p (p *ℤ number_at old at -ℤ number_at old column *ℤ number_at pivot at)) (sym same)
+                ap (λ at. entry new at *ℤ scale) same ∙ here
+                ∙ ap (λ at. with_sign p (p *ℤ entry old at -ℤ entry old column *ℤ entry pivot at)) (sym same)
             | inr other_place ↦ ap (λ (n : ℤ). n *ℤ scale) (e.others other other_place) ∙ h.divided other (omega arith) not_column
           ];
       rest = λ other above. e.others other (omega arith) ∙ h.rest other (omega arith);
@@ -43,19 +44,19 @@ exchanged_more scale column pivot old now new place entry factor number h apart 
     }
 
 -- a line with a 0 in the pivot's column stays, where the entry is the old scale up to its sign
-pub stays : (scale : ℤ) (column : ℕ) (pivot old : List ℤ) → with_sign (number_at pivot column) (number_at pivot column) ≡ scale
-    → with_sign (number_at pivot column) (number_at old column) ≡ pos 0 → IsOtherLine scale column pivot old old
-stays scale column pivot old entry factor =
-    let p = number_at pivot column in
-    let f = number_at old column in
+pub stays : (scale : ℤ) (column : ℕ) (pivot old : List ℤ) → with_sign (entry pivot column) (entry pivot column) ≡ scale
+    → with_sign (entry pivot column) (entry old column) ≡ pos 0 → IsOtherLine scale column pivot old old
+stays scale column pivot old lead factor =
+    let p = entry pivot column in
+    let f = entry old column in
     let none : f ≡ pos 0 = sym (with_sign-twice p f) ∙ ap (with_sign p) factor ∙ with_sign-zero p in
     record {
       len = refl;
       kept = none ∙ sym factor;
       divided = λ other inside apart.
-          let x = number_at old other in
-          let y = number_at pivot other in
-          alone scale x y ∙ ap (λ (n : ℤ). n *ℤ x -ℤ pos 0 *ℤ y) (sym entry) ∙ ap (λ (n : ℤ). with_sign p p *ℤ x -ℤ n *ℤ y) (sym factor) ∙ with_sign-difference p x f y;
+          let x = entry old other in
+          let y = entry pivot other in
+          alone scale x y ∙ ap (λ (n : ℤ). n *ℤ x -ℤ pos 0 *ℤ y) (sym lead) ∙ ap (λ (n : ℤ). with_sign p p *ℤ x -ℤ n *ℤ y) (sym factor) ∙ with_sign-difference p x f y;
     }
   where
     alone : (s x y : ℤ) → x *ℤ s ≡ s *ℤ x -ℤ pos 0 *ℤ y
@@ -70,7 +71,7 @@ exchanged_past_column scale column pivot old now place h same = record {
 }
 
 pub exchanged_all : (scale : ℤ) (column : ℕ) (pivot old now new : List ℤ) (place : ℕ) (factor : ℤ) → IsExchangedTo scale column pivot old now place → length old ≤ place → column < length old
-    → factor ≡ with_sign (number_at pivot column) (number_at old column) → new ≡ set now column factor → IsOtherLine scale column pivot old new
+    → factor ≡ with_sign (entry pivot column) (entry old column) → new ≡ set now column factor → IsOtherLine scale column pivot old new
 exchanged_all scale column pivot old now new place factor h all below value is =
     subst (λ (ns : List ℤ). IsOtherLine scale column pivot old ns) (sym is)
     (record {
@@ -82,24 +83,24 @@ exchanged_all scale column pivot old now new place factor h all below value is =
 -- the same on the pivot's row
 pub record IsLeftTo (column : ℕ) (old now : List ℤ) (place : ℕ) : Type 0 where
   pub len : length now ≡ length old
-  pub negated : (other : ℕ) → other < place → other ≢ column → number_at now other ≡ with_sign (number_at old column) (neg_ℤ (number_at old other))
-  pub rest : (other : ℕ) → place ≤ other → number_at now other ≡ number_at old other
-  pub column_kept : number_at now column ≡ number_at old column
+  pub negated : (other : ℕ) → other < place → other ≢ column → entry now other ≡ with_sign (entry old column) (neg_ℤ (entry old other))
+  pub rest : (other : ℕ) → place ≤ other → entry now other ≡ entry old other
+  pub column_kept : entry now column ≡ entry old column
 
 pub left_none : (column : ℕ) (old : List ℤ) → IsLeftTo column old old 0
 left_none column old = record { len = refl; negated = λ other below apart. absurd (omega arith); rest = λ other h. refl; column_kept = refl }
 
 pub left_more : (column : ℕ) (old now : List ℤ) (place : ℕ) → IsLeftTo column old now place → place ≢ column → place < length old
-    → IsLeftTo column old (set now place (with_sign (number_at now column) (neg_ℤ (number_at now place)))) (place + 1)
+    → IsLeftTo column old (set now place (with_sign (entry now column) (neg_ℤ (entry now place)))) (place + 1)
 left_more column old now place h apart inside = record {
   len = length-set now place _ ∙ h.len;
   negated = λ other below not_column.
       elim (cases_eq other place) [
         | inl same ↦
-            ap (number_at (set now place (with_sign (number_at now column) (neg_ℤ (number_at now place))))) same
-            ∙ get_or-set_same now place (with_sign (number_at now column) (neg_ℤ (number_at now place))) (pos 0) (omega (arith, h.len))
-            ∙ ap (λ (n : ℤ). with_sign n (neg_ℤ (number_at now place))) h.column_kept
-            ∙ ap (λ (n : ℤ). with_sign (number_at old column) (neg_ℤ n)) (h.rest place (omega arith) ∙ ap (number_at old) (sym same))
+            ap (entry (set now place (with_sign (entry now column) (neg_ℤ (entry now place))))) same
+            ∙ get_or-set_same now place (with_sign (entry now column) (neg_ℤ (entry now place))) (pos 0) (omega (arith, h.len))
+            ∙ ap (λ (n : ℤ). with_sign n (neg_ℤ (entry now place))) h.column_kept
+            ∙ ap (λ (n : ℤ). with_sign (entry old column) (neg_ℤ n)) (h.rest place (omega arith) ∙ ap (entry old) (sym same))
         | inr other_place ↦ get_or-set_other now place other _ (pos 0) other_place ∙ h.negated other (omega arith) not_column
       ];
   rest = λ other above. get_or-set_other now place other _ (pos 0) (omega arith) ∙ h.rest other (omega arith);
@@ -115,7 +116,7 @@ left_past_column column old now place h same = record {
 }
 
 pub left_all : (scale : ℤ) (column : ℕ) (old now : List ℤ) (place : ℕ) → IsLeftTo column old now place → length old ≤ place → column < length old
-    → IsPivotLine scale column old (set now column (with_sign (number_at now column) scale))
+    → IsPivotLine scale column old (set now column (with_sign (entry now column) scale))
 left_all scale column old now place h all below = record {
   len = length-set now column _ ∙ h.len;
   kept = get_or-set_same now column _ (pos 0) (omega (arith, h.len)) ∙ ap (λ (n : ℤ). with_sign n scale) h.column_kept;

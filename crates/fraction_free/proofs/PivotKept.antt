@@ -6,20 +6,16 @@ use Rattle.std.proofs.lemmas.Bool.{cases_eq}
 use Rattle.std.proofs.lemmas.List.Edits.{length-swap, swap_is, swapped_from_swap}
 use Rattle.std.specs.List.{SwappedAt, swap}
 use Rattle.std.specs.Int.{w128}
-use Rattle.wide_step.proofs.Integers.{read_back}
-use Rattle.minors.specs.Minor.{entry}
 use Rattle.minors.specs.Combination.{IsCombination, IsScale, IsLeaving, column_of}
-use Rattle.minors.specs.Combination.{dot as dot_of}
 use Rattle.minors.proofs.Laws.{scale_after_pivot, pivot_keeps_combination, leaving_row_is_combination}
-use Rattle.minors.proofs.Ring.{mul_zero, sums}
-use Rattle.row_laws.specs.Rows.{dot}
+use Rattle.row_laws.proofs.Integers.{mul-zero, sums, read_back}
+use Rattle.row_laws.specs.Rows.{dot, entry}
 use Rattle.fraction_free.specs.declared.loaded.LoadedRow.{LoadedRow}
 use Rattle.fraction_free.specs.Arrangement.{IsArrangement, Arranged}
 use Rattle.fraction_free.specs.Changes.{with_sign, IsOtherLine, IsPivotLine, IsPivoted}
 use Rattle.fraction_free.specs.Dictionary.{Satisfies}
 use Rattle.fraction_free.specs.Representation.{table_row, square_of, view_of, AreMinors, IsRepresentation, AreExchanged}
 use Rattle.fraction_free.proofs.Table.{square_at, length-square}
-use Rattle.fraction_free.proofs.Values.{same_dot}
 use Rattle.fraction_free.proofs.Kept.{columns_and_constant, line_len}
 use Rattle.fraction_free.proofs.Signs.{with_sign-self, with_sign-abs, turn, turned_scale, combination_of_turned, turned_of_combination, pivoted_of, leaving_of, pivoted_back, leaving_back}
 
@@ -121,7 +117,7 @@ exchange_keeps m l s order lines new_s new_order new_lines row column t e = reco
 -- ---- the equations of a dictionary
 
 abbrev pub Equations : ℕ → ℕ → ℤ → List ℕ → List (List ℤ) → (ℕ → ℤ) → Type 0
-Equations m count s order lines x = (row : ℕ) → row < count → s *ℤ x (get_or order (m + 1 + row) 0) ≡ dot_of (get_or lines row []) (map x (take (m + 1) order))
+Equations m count s order lines x = (row : ℕ) → row < count → s *ℤ x (get_or order (m + 1 + row) 0) ≡ dot (get_or lines row []) (map x (take (m + 1) order))
 
 pub equations_of : (m : ℕ) (l : List LoadedRow) (s : ℤ) (order : List ℕ) (lines : List (List ℤ)) (a b c d : ℕ) (x : ℕ → ℤ)
     → length order ≡ m + 1 + length l → get_or order m 0 ≡ 0 → Satisfies (view_of m l s order lines a b c d) x → Equations m (length l) s order lines x
@@ -129,7 +125,6 @@ equations_of m l s order lines a b c d x len constant h row below =
     ap (λ k. s *ℤ x k) (sym (get_or-drop (m + 1) order row 0))
     ∙ h.each row (omega (arith, length-drop (m + 1) order))
     ∙ ap (λ vs. dot (get_or lines row []) (map x vs)) (columns_and_constant m order (omega arith) constant)
-    ∙ same_dot (get_or lines row []) (map x (take (m + 1) order))
 
 pub satisfies_from : (m : ℕ) (l : List LoadedRow) (s : ℤ) (order : List ℕ) (lines : List (List ℤ)) (a b c d : ℕ) (x : ℕ → ℤ)
     → length order ≡ m + 1 + length l → get_or order m 0 ≡ 0 → Equations m (length l) s order lines x → Satisfies (view_of m l s order lines a b c d) x
@@ -137,7 +132,6 @@ satisfies_from m l s order lines a b c d x len constant h = record {
   each = λ row below.
       ap (λ k. s *ℤ x k) (get_or-drop (m + 1) order row 0)
       ∙ h row (omega (arith, length-drop (m + 1) order))
-      ∙ sym (same_dot (get_or lines row []) (map x (take (m + 1) order)))
       ∙ ap (λ vs. dot (get_or lines row []) (map x vs)) (sym (columns_and_constant m order (omega arith) constant));
 }
 
@@ -149,28 +143,28 @@ cells_first : (x : ℕ → ℤ) (vs : List ℕ) → column_of (map (cell x) vs) 
 cells_first x [] = refl
 cells_first x (v ∷ vs) = ap (λ (ns : List ℤ). x v ∷ ns) (cells_first x vs)
 
-cells_rest : (x : ℕ → ℤ) (c : ℕ) (factors : List ℤ) (vs : List ℕ) → dot_of factors (column_of (map (cell x) vs) (suc c)) ≡ pos 0
+cells_rest : (x : ℕ → ℤ) (c : ℕ) (factors : List ℤ) (vs : List ℕ) → dot factors (column_of (map (cell x) vs) (suc c)) ≡ pos 0
 cells_rest x c [] vs = refl
 cells_rest x c (f ∷ factors) [] = refl
-cells_rest x c (f ∷ factors) (v ∷ vs) = none (f *ℤ pos 0) (dot_of factors (column_of (map (cell x) vs) (suc c))) (mul_zero f) (cells_rest x c factors vs)
+cells_rest x c (f ∷ factors) (v ∷ vs) = none (f *ℤ pos 0) (dot factors (column_of (map (cell x) vs) (suc c))) (mul-zero f) (cells_rest x c factors vs)
   where
     none : (p q : ℤ) → p ≡ pos 0 → q ≡ pos 0 → p +ℤ q ≡ pos 0
     none p q h k = omega (arith, sums)
 
-combination_of_equation : (s : ℤ) (x : ℕ → ℤ) (v : ℕ) (line : List ℤ) (vs : List ℕ) → length line ≡ length vs → s *ℤ x v ≡ dot_of line (map x vs)
+combination_of_equation : (s : ℤ) (x : ℕ → ℤ) (v : ℕ) (line : List ℤ) (vs : List ℕ) → length line ≡ length vs → s *ℤ x v ≡ dot line (map x vs)
     → IsCombination s (cell x v) line (map (cell x) vs)
 combination_of_equation s x v line vs len h = record {
   len = len ∙ sym (length-map vs (cell x));
   each = λ c below. at c;
 }
   where
-    at : (c : ℕ) → s *ℤ entry (cell x v) c ≡ dot_of line (column_of (map (cell x) vs) c)
-    at zero = h ∙ ap (dot_of line) (sym (cells_first x vs))
-    at (suc c) = mul_zero s ∙ sym (cells_rest x c line vs)
+    at : (c : ℕ) → s *ℤ entry (cell x v) c ≡ dot line (column_of (map (cell x) vs) c)
+    at zero = h ∙ ap (dot line) (sym (cells_first x vs))
+    at (suc c) = mul-zero s ∙ sym (cells_rest x c line vs)
 
 equation_of_combination : (s : ℤ) (x : ℕ → ℤ) (v : ℕ) (line : List ℤ) (vs : List ℕ) → 0 < length vs → IsCombination s (cell x v) line (map (cell x) vs)
-    → s *ℤ x v ≡ dot_of line (map x vs)
-equation_of_combination s x v line vs some comb = comb.each 0 (omega (arith, length-map vs (cell x))) ∙ ap (dot_of line) (cells_first x vs)
+    → s *ℤ x v ≡ dot line (map x vs)
+equation_of_combination s x v line vs some comb = comb.each 0 (omega (arith, length-map vs (cell x))) ∙ ap (dot line) (cells_first x vs)
 
 -- the exchanged variable is put back
 columns_back : (m : ℕ) (order new_order : List ℕ) (row column : ℕ) → column < m → SwappedAt order new_order column (m + 1 + row)
@@ -228,7 +222,7 @@ exchange_back m l s order lines new_s new_order new_lines row column x t e h oth
     entering : IsCombination p (cell x (get_or order column 0)) (turn p (get_or new_lines row [])) cells
     entering = subst (λ k. IsCombination p (cell x k) (turn p (get_or new_lines row [])) cells) (e.swapped.1 0) (new_row row row_in e.pivot_line.len)
 
-    by_row : (other ≡ row) ⊎ (other ≢ row) → s *ℤ x (get_or order (m + 1 + other) 0) ≡ dot_of (get_or lines other []) (map x (take (m + 1) order))
+    by_row : (other ≡ row) ⊎ (other ≢ row) → s *ℤ x (get_or order (m + 1 + other) 0) ≡ dot (get_or lines other []) (map x (take (m + 1) order))
     by_row (inl same) =
         let comb = leaving_row_is_combination p (cell x (get_or order column 0)) (turn p (get_or new_lines row [])) pivot cells column entering inside (leaving_back s column pivot (turn p (get_or new_lines row [])) leaving) in
         let first : get_or cells column [] ≡ cell x (get_or order (m + 1 + other) 0) =

@@ -3,10 +3,10 @@ use Rattle.std.proofs.Common.{◌≡◌, ◌≢◌, ◌∙◌, ℕ, zero, suc, �
 use Rattle.std.proofs.lemmas.List.{map-id, length-map}
 use Rattle.std.proofs.lemmas.Int.{ints}
 use Rattle.std.proofs.Math.ListN.{get_or-map as get_or-map_default}
-use Rattle.minors.specs.Minor.{entry}
+use Rattle.row_laws.specs.Rows.{entry}
 use Rattle.minors.specs.Combination.{IsCombination, IsScale, ExchangesFactors, IsLeaving}
 use Rattle.minors.proofs.Laws.{negated_combination, negated_scale}
-use Rattle.minors.proofs.Ring.{sums, neg-mul, mul-neg}
+use Rattle.row_laws.proofs.Integers.{sums, neg-mul, mul-neg}
 use Rattle.std.proofs.Math.IntN.{*ℤ_comm}
 use Rattle.fraction_free.specs.Changes.{with_sign, IsOtherLine, IsPivotLine}
 

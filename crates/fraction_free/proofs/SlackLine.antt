@@ -8,13 +8,12 @@ use Rattle.std.proofs.lemmas.Nat.{mul-le}
 use Rattle.std.proofs.Math.IntN.{*ℤ_comm}
 use Rattle.std.proofs.lemmas.Bool.Decides.{nat_tests}
 use Rattle.std.specs.List.{range_with_len}
-use Rattle.minors.specs.Minor.{entry}
 use Rattle.minors.specs.Combination.{IsCombination, column_of}
 use Rattle.minors.proofs.Laws.{sum_of_combinations, square_row_is_combination}
-use Rattle.minors.proofs.Total.{dot_is_total, total_zero, total_same}
-use Rattle.minors.proofs.Ring.{sums, mul_zero, one_mul, abs-add}
+use Rattle.row_laws.proofs.Totals.{dot_is_total, total-zero, total_same}
+use Rattle.row_laws.proofs.Integers.{sums, mul-zero, one-mul, unsigned_abs-add}
 use Rattle.fraction_free.specs.declared.loaded.LoadedRow.{LoadedRow}
-use Rattle.fraction_free.specs.Changes.{number_at}
+use Rattle.row_laws.specs.Rows.{entry}
 use Rattle.fraction_free.specs.Representation.{unit, slack_constant, row_of, table_row, square_of, AreMinors, factors_at, IsAdded}
 use Rattle.fraction_free.proofs.Table.{unit_one, unit_zero, table_row-increment, table_row-constant, length-square, square_at, row_of_last, row_of_plain}
 
@@ -38,24 +37,24 @@ pub column_factor_other : (s : ℤ) (width place at : ℕ) → at ≢ place → 
 column_factor_other s width place at apart = get_or-set_other (replicate width (pos 0)) place at s (pos 0) apart ∙ zeros_at width at
 
 -- the number of a column's place is set to the sum
-pub added_at_column : (t s v : ℤ) (old : List ℤ) (width place : ℕ) → length old ≡ width → place < width → v ≡ number_at old place +ℤ t *ℤ s
+pub added_at_column : (t s v : ℤ) (old : List ℤ) (width place : ℕ) → length old ≡ width → place < width → v ≡ entry old place +ℤ t *ℤ s
     → IsAdded t old (set (replicate width (pos 0)) place s) (set old place v)
 added_at_column t s v old width place len below is = record {
   len = length-set old place v;
   sums = λ at inside.
       elim (cases_eq at place) [
         | inl e ↦
-            ap (number_at (set old place v)) e ∙ get_or-set_same old place v (pos 0) (omega arith) ∙ is
-            ∙ ap (λ (n : ℤ). number_at old place +ℤ t *ℤ n) (sym (column_factor_here s width place below))
-            ∙ ap (λ k. number_at old k +ℤ t *ℤ number_at (set (replicate width (pos 0)) place s) k) (sym e)
+            ap (entry (set old place v)) e ∙ get_or-set_same old place v (pos 0) (omega arith) ∙ is
+            ∙ ap (λ (n : ℤ). entry old place +ℤ t *ℤ n) (sym (column_factor_here s width place below))
+            ∙ ap (λ k. entry old k +ℤ t *ℤ entry (set (replicate width (pos 0)) place s) k) (sym e)
         | inr ne ↦
-            get_or-set_other old place at v (pos 0) ne ∙ plus_nothing (number_at old at) t
-            ∙ ap (λ (n : ℤ). number_at old at +ℤ t *ℤ n) (sym (column_factor_other s width place at ne))
+            get_or-set_other old place at v (pos 0) ne ∙ plus_nothing (entry old at) t
+            ∙ ap (λ (n : ℤ). entry old at +ℤ t *ℤ n) (sym (column_factor_other s width place at ne))
       ];
 }
   where
     plus_nothing : (n t : ℤ) → n ≡ n +ℤ t *ℤ pos 0
-    plus_nothing n t = omega (arith, sums, mul_zero t)
+    plus_nothing n t = omega (arith, sums, mul-zero t)
 
 -- ---- combinations
 
@@ -63,16 +62,16 @@ pub add_combination : (s k : ℤ) (row a new_row factors of_a new_factors : List
     → ((c : ℕ) → c < length rows → entry new_row c ≡ entry row c +ℤ k *ℤ entry a c) → IsAdded k factors of_a new_factors → IsCombination s new_row new_factors rows
 add_combination s k row a new_row factors of_a new_factors rows comb comb_a row_is added =
     sum_of_combinations s (pos 1) k row a new_row factors of_a new_factors rows comb comb_a
-    (λ c below. row_is c below ∙ ap (λ (n : ℤ). n +ℤ k *ℤ entry a c) (sym (one_mul (entry row c))))
+    (λ c below. row_is c below ∙ ap (λ (n : ℤ). n +ℤ k *ℤ entry a c) (sym (one-mul (entry row c))))
     (added.len ∙ comb.len)
-    (λ at below. added.sums at (omega (arith, comb.len)) ∙ ap (λ (n : ℤ). n +ℤ k *ℤ entry of_a at) (sym (one_mul (entry factors at))))
+    (λ at below. added.sums at (omega (arith, comb.len)) ∙ ap (λ (n : ℤ). n +ℤ k *ℤ entry of_a at) (sym (one-mul (entry factors at))))
 
 pub zero_combination : (s : ℤ) (width : ℕ) (rows : List (List ℤ)) → length rows ≡ width → IsCombination s [] (replicate width (pos 0)) rows
 zero_combination s width rows len = record {
   len = length-replicate width (pos 0) ∙ sym len;
   each = λ c below.
       let numbers = column_of rows c in
-      mul_zero s ∙ sym (dot_is_total (replicate width (pos 0)) numbers ∙ total_same (entry (replicate width (pos 0))) (λ i. pos 0) numbers (λ i l. zeros_at width i) ∙ total_zero numbers);
+      mul-zero s ∙ sym (dot_is_total (replicate width (pos 0)) numbers ∙ total_same (entry (replicate width (pos 0))) (λ i. pos 0) numbers (λ i l. zeros_at width i) ∙ total-zero numbers);
 }
 
 -- the factors of the variable at a place
@@ -119,10 +118,10 @@ plus_one_time : (n k u : ℤ) → n ≡ pos 0 → u ≡ pos 1 → k ≡ n +ℤ k
 plus_one_time n k u h i = rw (h, i) (omega (arith, sums, one_time k))
   where
     one_time : (k : ℤ) → k *ℤ pos 1 ≡ k
-    one_time k = *ℤ_comm k (pos 1) ∙ one_mul k
+    one_time k = *ℤ_comm k (pos 1) ∙ one-mul k
 
 plus_no_time : (n k u : ℤ) → u ≡ pos 0 → n ≡ n +ℤ k *ℤ u
-plus_no_time n k u i = rw i (omega (arith, sums, mul_zero k))
+plus_no_time n k u i = rw i (omega (arith, sums, mul-zero k))
 
 pub part_first : (m : ℕ) (constant : ℤ) (coefficients : List ℤ) (j : ℕ) → j < m + 1 → entry (part m constant coefficients 0) j ≡ entry [] j +ℤ constant *ℤ entry (unit (m + 1) m) j
 part_first m constant coefficients j below =
@@ -173,25 +172,25 @@ whole_row m row s factors rows len rows_len comb = record {
 
 -- ---- sizes
 
-pub factor_size : (s : ℤ) (lines : List (List ℤ)) (width place at : ℕ) → unsigned_abs s < 2 ^ 89 → ((row k : ℕ) → unsigned_abs (number_at (get_or lines row []) k) < 2 ^ 89)
-    → unsigned_abs (number_at (factors_at s lines width place) at) < 2 ^ 89
+pub factor_size : (s : ℤ) (lines : List (List ℤ)) (width place at : ℕ) → unsigned_abs s < 2 ^ 89 → ((row k : ℕ) → unsigned_abs (entry (get_or lines row []) k) < 2 ^ 89)
+    → unsigned_abs (entry (factors_at s lines width place) at) < 2 ^ 89
 factor_size s lines width place at s_size sizes =
     elim (cases_lt place width) [
-      | inl column ↦ subst (λ (f : List ℤ). unsigned_abs (number_at f at) < 2 ^ 89) (sym (factors_at-column s lines width place column))
+      | inl column ↦ subst (λ (f : List ℤ). unsigned_abs (entry f at) < 2 ^ 89) (sym (factors_at-column s lines width place column))
           (elim (cases_eq at place) [
             | inl e ↦ subst (λ (n : ℤ). unsigned_abs n < 2 ^ 89) (sym (ap (entry (set (replicate width (pos 0)) place s)) e ∙ column_factor_here s width place column)) s_size
             | inr ne ↦ subst (λ (n : ℤ). unsigned_abs n < 2 ^ 89) (sym (column_factor_other s width place at ne)) (lit< tt)
           ])
-      | inr row ↦ subst (λ (f : List ℤ). unsigned_abs (number_at f at) < 2 ^ 89) (sym (factors_at-row s lines width place row)) (sizes (place - width) at)
+      | inr row ↦ subst (λ (f : List ℤ). unsigned_abs (entry f at) < 2 ^ 89) (sym (factors_at-row s lines width place row)) (sizes (place - width) at)
     ]
 
-pub added_size : (k : ℤ) (old other new : List ℤ) (at times most : ℕ) → IsAdded k old other new → unsigned_abs k ≤ times → unsigned_abs (number_at old at) ≤ most → unsigned_abs (number_at other at) < 2 ^ 89
-    → unsigned_abs (number_at new at) ≤ most + times * 2 ^ 89
+pub added_size : (k : ℤ) (old other new : List ℤ) (at times most : ℕ) → IsAdded k old other new → unsigned_abs k ≤ times → unsigned_abs (entry old at) ≤ most → unsigned_abs (entry other at) < 2 ^ 89
+    → unsigned_abs (entry new at) ≤ most + times * 2 ^ 89
 added_size k old other new at times most added k_size size other_size =
     elim (cases_lt at (length old)) [
       | inl below ↦
           subst (λ (n : ℤ). unsigned_abs n ≤ most + times * 2 ^ 89) (sym (added.sums at below))
-          (omega (arith, abs-add (number_at old at) (k *ℤ number_at other at), unsigned_abs-mul k (number_at other at), mul-le (unsigned_abs k) (unsigned_abs (number_at other at)) times (2 ^ 89) k_size (omega arith)))
+          (omega (arith, unsigned_abs-add (entry old at) (k *ℤ entry other at), unsigned_abs-mul k (entry other at), mul-le (unsigned_abs k) (unsigned_abs (entry other at)) times (2 ^ 89) k_size (omega arith)))
       | inr past ↦ subst (λ (n : ℤ). unsigned_abs n ≤ most + times * 2 ^ 89) (sym (get_or_past new at (pos 0) (omega (arith, added.len)))) (omega arith)
     ]
 

@@ -5,8 +5,9 @@ use Rattle.std.proofs.lemmas.List.FromFn.{get_or-map-range_with_len, length-map-
 use Rattle.std.proofs.lemmas.Bool.{cases_eq, cases_lt}
 use Rattle.std.proofs.lemmas.Bool.Decides.{nat_tests}
 use Rattle.std.specs.List.{All}
-use Rattle.minors.specs.Minor.{entry, IsUnit, HasSmallEntries}
-use Rattle.minors.proofs.Ring.{abs-add}
+use Rattle.row_laws.specs.Rows.{entry}
+use Rattle.minors.specs.Minor.{IsUnit, HasSmallEntries}
+use Rattle.row_laws.proofs.Integers.{unsigned_abs-add}
 use Rattle.fraction_free.specs.declared.loaded.LoadedRow.{LoadedRow}
 use Rattle.fraction_free.specs.Arrangement.{IsArrangement}
 use Rattle.fraction_free.specs.Dictionary.{IsLoadable, loaded_at}
@@ -63,7 +64,7 @@ fold_size : (xs : List ℤ) (start : ℤ) (n : ℕ) → All (λ x. unsigned_abs 
 fold_size [] start n all h = omega arith
 fold_size (x ∷ xs) start n all h =
     let one : unsigned_abs x ≤ 1 = all 0 (pos 0) (omega arith) in
-    let rest = fold_size xs (start +ℤ x) (n + 1) (λ k d below. all (suc k) d (omega arith)) (omega (arith, abs-add start x)) in
+    let rest = fold_size xs (start +ℤ x) (n + 1) (λ k d below. all (suc k) d (omega arith)) (omega (arith, unsigned_abs-add start x)) in
     omega arith
 
 least_size : (least : ℤ) → (least ≡ pos 0) ⊎ (least ≡ pos 1) → unsigned_abs (neg_ℤ least) ≤ 1

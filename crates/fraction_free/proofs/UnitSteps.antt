@@ -3,7 +3,7 @@ use Rattle.std.proofs.Common.{◌≡◌, ◌∙◌, ◌<◌, ◌^◌, ℤ, pos, 
 use Rattle.std.specs.Int.{w128}
 use Rattle.std.proofs.lemmas.Int.{ints, fits_signed_from_abs}
 use Rattle.wide_step.specs.Quotient.{HasQuotient}
-use Rattle.wide_step.proofs.Integers.{read_back}
+use Rattle.row_laws.proofs.Integers.{read_back}
 
 pub small_back : (z : ℤ) → unsigned_abs z < 2 ^ 126 → to_z w128 (of_z w128 z) ≡ z
 small_back z h = read_back w128 z (omega arith)

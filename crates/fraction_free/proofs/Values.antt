@@ -4,24 +4,17 @@ use Rattle.std.proofs.lemmas.List.{get_or_append_left, get_or_at, length_push, l
 use Rattle.std.proofs.lemmas.List.FromFn.{get_or-map-range_with_len, length-map-range_with_len, length-range_with_len}
 use Rattle.std.proofs.lemmas.Bool.{cases_eq, cases_lt}
 use Rattle.std.specs.List.{range_with_len}
-use Rattle.minors.specs.Minor.{entry}
 use Rattle.minors.specs.Combination.{IsCombination}
-use Rattle.minors.specs.Combination.{dot as dot_of}
-use Rattle.minors.proofs.Total.{dot_is_total, total_single}
+use Rattle.row_laws.proofs.Totals.{dot_is_total, total_single}
 use Rattle.minors.proofs.Laws.{combination_at_point}
-use Rattle.minors.proofs.Ring.{sums, mul-add, add-mul, neg-mul, one_mul}
-use Rattle.row_laws.specs.Rows.{dot}
+use Rattle.row_laws.proofs.Integers.{sums, mul-add, add-mul, neg-mul, one-mul}
+use Rattle.row_laws.specs.Rows.{dot, entry}
 use Rattle.row_laws.proofs.RowLemmas.{dot-append}
 use Rattle.fraction_free.specs.declared.loaded.LoadedRow.{LoadedRow}
 use Rattle.fraction_free.specs.Arrangement.{IsArrangement}
 use Rattle.fraction_free.specs.Dictionary.{IsLoadable, HasSlacks, loaded_at, slack_of, vector_of}
 use Rattle.fraction_free.specs.Representation.{unit, slack_constant, row_of, table_row, square_of}
 use Rattle.fraction_free.proofs.Table.{unit_one, unit_zero, table_row-increment, table_row-slack, length-square}
-
-pub same_dot : (xs ys : List ℤ) → dot xs ys ≡ dot_of xs ys
-same_dot [] ys = refl
-same_dot (x ∷ xs) [] = refl
-same_dot (x ∷ xs) (y ∷ ys) = ap (λ (n : ℤ). x *ℤ y +ℤ n) (same_dot xs ys)
 
 -- the variables' values as a point: of the increments, and of the constant 1
 abbrev pub point_of : ℕ → (ℕ → ℤ) → List ℤ
@@ -38,13 +31,13 @@ point_at m x p below =
     get_or_append_left (map x (range_with_len 1 m)) (x 0 ∷ []) (pos 0) p (omega (arith, length-map-range_with_len x 1 m))
     ∙ get_or-map-range_with_len x 1 m p (1 + p) (pos 0) below refl
 
-pub unit_value : (m p : ℕ) (x : ℕ → ℤ) → p ≤ m → dot_of (unit (m + 1) p) (point_of m x) ≡ entry (point_of m x) p
+pub unit_value : (m p : ℕ) (x : ℕ → ℤ) → p ≤ m → dot (unit (m + 1) p) (point_of m x) ≡ entry (point_of m x) p
 unit_value m p x h =
     let len = length-point m x in
     dot_is_total (unit (m + 1) p) (point_of m x)
     ∙ total_single (entry (unit (m + 1) p)) (point_of m x) p (omega arith) (λ i below apart. unit_zero (m + 1) p i (omega arith) apart)
     ∙ ap (λ (n : ℤ). n *ℤ entry (point_of m x) p) (unit_one (m + 1) p (omega arith))
-    ∙ one_mul (entry (point_of m x) p)
+    ∙ one-mul (entry (point_of m x) p)
 
 shift_step : (start c y k d e f : ℤ) → (start +ℤ c) *ℤ k +ℤ d ≡ e +ℤ f → start *ℤ k +ℤ (c *ℤ (y +ℤ k) +ℤ d) ≡ e +ℤ (c *ℤ y +ℤ f)
 shift_step start c y k d e f h = omega (arith, sums, add-mul start c k, mul-add c y k)
@@ -60,30 +53,29 @@ shifted x k start (c ∷ cs) (j ∷ js) h =
 slack_step : (c k d v least slack : ℤ) → neg_ℤ least *ℤ k +ℤ v ≡ c *ℤ k +ℤ d → slack ≡ v -ℤ least *ℤ k → d +ℤ (c *ℤ k +ℤ pos 0) ≡ slack
 slack_step c k d v least slack h e = omega (arith, sums, neg-mul least k)
 
-pub slack_value : (m : ℕ) (row : LoadedRow) (x : ℕ → ℤ) → length row.coefficients ≡ m → dot_of (row_of row) (point_of m x) ≡ slack_of m row x
+pub slack_value : (m : ℕ) (row : LoadedRow) (x : ℕ → ℤ) → length row.coefficients ≡ m → dot (row_of row) (point_of m x) ≡ slack_of m row x
 slack_value m row x len =
     let mapped = length-map-range_with_len x 1 m in
-    sym (same_dot (row_of row) (point_of m x))
-    ∙ dot-append row.coefficients (slack_constant row ∷ []) (map x (range_with_len 1 m)) (x 0 ∷ []) (len ∙ sym mapped)
+    dot-append row.coefficients (slack_constant row ∷ []) (map x (range_with_len 1 m)) (x 0 ∷ []) (len ∙ sym mapped)
     ∙ slack_step (slack_constant row) (x 0) (dot row.coefficients (map x (range_with_len 1 m))) (dot row.coefficients (vector_of m x)) row.least (slack_of m row x)
     (shifted x (x 0) (neg_ℤ row.least) row.coefficients (range_with_len 1 m) (omega (arith, length-range_with_len 1 m))) refl
 
 -- each variable has the value of its row
 pub variable_value : (m : ℕ) (l : List LoadedRow) (x : ℕ → ℤ) (v : ℕ) → ((row : ℕ) → row < length l → IsLoadable m (loaded_at l row)) → HasSlacks m l x
-    → v < m + 1 + length l → dot_of (table_row m l v) (point_of m x) ≡ x v
+    → v < m + 1 + length l → dot (table_row m l v) (point_of m x) ≡ x v
 variable_value m l x v rows h below =
     elim (cases_eq v 0) [
-      | inl e ↦ ap (λ k. dot_of (table_row m l k) (point_of m x)) e ∙ unit_value m m x (omega arith) ∙ point_last m x ∙ ap x (sym e)
+      | inl e ↦ ap (λ k. dot (table_row m l k) (point_of m x)) e ∙ unit_value m m x (omega arith) ∙ point_last m x ∙ ap x (sym e)
       | inr ne ↦ elim (cases_lt m v) [
         | inl high ↦
             let at : v - m - 1 < length l = omega arith in
             let index : m + 1 + (v - m - 1) ≡ v = omega arith in
-            ap (λ (r : List ℤ). dot_of r (point_of m x)) (table_row-slack m l v high)
+            ap (λ (r : List ℤ). dot r (point_of m x)) (table_row-slack m l v high)
             ∙ slack_value m (loaded_at l (v - m - 1)) x (rows (v - m - 1) at).len
             ∙ sym (h.each (v - m - 1) at) ∙ ap x index
         | inr low ↦
             let index : 1 + (v - 1) ≡ v = omega arith in
-            ap (λ (r : List ℤ). dot_of r (point_of m x)) (table_row-increment m l v (omega arith) low)
+            ap (λ (r : List ℤ). dot r (point_of m x)) (table_row-increment m l v (omega arith) low)
             ∙ unit_value m (v - 1) x (omega arith) ∙ point_at m x (v - 1) (omega arith) ∙ ap x index
       ]
     ]
@@ -96,9 +88,9 @@ mapped_values g t x (v ∷ vs) h =
 
 pub square_values : (m : ℕ) (l : List LoadedRow) (order : List ℕ) (x : ℕ → ℤ) → length order ≡ m + 1 + length l → IsArrangement order
     → ((row : ℕ) → row < length l → IsLoadable m (loaded_at l row)) → HasSlacks m l x
-    → map (λ (r : List ℤ). dot_of r (point_of m x)) (square_of m l order) ≡ map x (take (m + 1) order)
+    → map (λ (r : List ℤ). dot r (point_of m x)) (square_of m l order) ≡ map x (take (m + 1) order)
 square_values m l order x len arranged rows h =
-    mapped_values (λ (r : List ℤ). dot_of r (point_of m x)) (table_row m l) x (take (m + 1) order)
+    mapped_values (λ (r : List ℤ). dot r (point_of m x)) (table_row m l) x (take (m + 1) order)
     (λ k below.
     let inside : k < m + 1 = omega (arith, length-take-le (m + 1) order (omega arith)) in
     let v : get_or (take (m + 1) order) k 0 < m + 1 + length l = omega (arith, get_or-take (m + 1) order k 0 inside, arranged.below k (omega arith)) in
@@ -108,7 +100,7 @@ square_values m l order x len arranged rows h =
 pub combination_value : (m : ℕ) (l : List LoadedRow) (s : ℤ) (order : List ℕ) (x : ℕ → ℤ) (row factors : List ℤ) → length order ≡ m + 1 + length l → IsArrangement order
     → ((r : ℕ) → r < length l → IsLoadable m (loaded_at l r)) → HasSlacks m l x
     → IsCombination s row factors (square_of m l order)
-    → s *ℤ dot_of row (point_of m x) ≡ dot_of factors (map x (take (m + 1) order))
+    → s *ℤ dot row (point_of m x) ≡ dot factors (map x (take (m + 1) order))
 combination_value m l s order x row factors len arranged rows h comb =
     combination_at_point s row factors (point_of m x) (square_of m l order) comb (omega (arith, length-point m x, length-square m l order (omega arith)))
-    ∙ ap (dot_of factors) (square_values m l order x len arranged rows h)
+    ∙ ap (dot factors) (square_values m l order x len arranged rows h)

@@ -1,6 +1,7 @@
 -- What the calls make of a dictionary.
 use Rattle.std.specs.Prelude.{ℕ, ◌+◌, ◌-◌, ◌^◌, ◌≡◌, ◌≢◌, ◌<◌, ◌⊎◌, min, List, [], ◌∷◌, ◌++◌, length, take, slice_index, slice_index_or, slice_set, ℤ, pos, negsuc, neg_ℤ, ◌-ℤ◌, ◌*ℤ◌}
 use Rattle.std.specs.List.{range_with_len, swap_remove}
+use Rattle.row_laws.specs.Rows.{entry}
 use Rattle.fraction_free.specs.declared.loaded.LoadedRow.{LoadedRow}
 use Rattle.fraction_free.specs.Dictionary.{DictionaryView, line_of, entry_in}
 
@@ -38,31 +39,27 @@ abbrev pub with_sign : ℤ → ℤ → ℤ
 with_sign (pos n) y = y
 with_sign (negsuc n) y = neg_ℤ y
 
--- the number of a line at a column; the constant is at the last
-abbrev pub number_at : List ℤ → ℕ → ℤ
-number_at line column = slice_index_or line column (pos 0)
-
 -- the line of another row after a pivot: each difference of products is divided exactly by the old scale, and all signs are turned where the pivot's entry is negative
 pub record IsOtherLine (scale : ℤ) (column : ℕ) (pivot old new : List ℤ) : Type 0 where
   pub len : length new ≡ length old
-  pub kept : number_at new column ≡ with_sign (number_at pivot column) (number_at old column)
+  pub kept : entry new column ≡ with_sign (entry pivot column) (entry old column)
   pub divided : (other : ℕ) → other < length old → other ≢ column
-      → number_at new other *ℤ scale
-      ≡ with_sign (number_at pivot column) (number_at pivot column *ℤ number_at old other -ℤ number_at old column *ℤ number_at pivot other)
+      → entry new other *ℤ scale
+      ≡ with_sign (entry pivot column) (entry pivot column *ℤ entry old other -ℤ entry old column *ℤ entry pivot other)
 
 -- the line of the pivot's row, which is that of the variable that was nonbasic
 pub record IsPivotLine (scale : ℤ) (column : ℕ) (pivot new : List ℤ) : Type 0 where
   pub len : length new ≡ length pivot
-  pub kept : number_at new column ≡ with_sign (number_at pivot column) scale
+  pub kept : entry new column ≡ with_sign (entry pivot column) scale
   pub negated : (other : ℕ) → other < length pivot → other ≢ column
-      → number_at new other ≡ with_sign (number_at pivot column) (neg_ℤ (number_at pivot other))
+      → entry new other ≡ with_sign (entry pivot column) (neg_ℤ (entry pivot other))
 
 -- the basic variable of the row and the nonbasic variable of the column are exchanged, both counted from 0
 pub record IsPivoted (old new : DictionaryView) (row column : ℕ) : Type 0 where
   pub rest : new ≡ record old { scale = new.scale; nonbasic = new.nonbasic; basic = new.basic; lines = new.lines }
   pub nonbasic : new.nonbasic ≡ slice_set old.nonbasic column (slice_index old.basic row)
   pub basic : new.basic ≡ slice_set old.basic row (slice_index old.nonbasic column)
-  pub scale : new.scale ≡ with_sign (number_at (line_of old row) column) (number_at (line_of old row) column)
+  pub scale : new.scale ≡ with_sign (entry (line_of old row) column) (entry (line_of old row) column)
   pub lines_len : length new.lines ≡ length old.lines
   pub pivot_line : IsPivotLine old.scale column (line_of old row) (line_of new row)
   pub other_lines : (other : ℕ) → other < length old.lines → other ≢ row
@@ -103,7 +100,7 @@ pub record DropsLast (old new : DictionaryView) : Type 0 where
   pub way : ((row : ℕ) × DropsRow old new row) ⊎ ((column : ℕ) × (row : ℕ) × (between : DictionaryView) × DropsPivoted old new column row between)
 
 -- one number of another row's line after a pivot, by the pivot's entry, the row's factor and the pivot row's number; the others are as they were
-pub record IsExchangedAt (scale entry factor other : ℤ) (old new : List ℤ) (place : ℕ) : Type 0 where
+pub record IsExchangedAt (scale lead factor other : ℤ) (old new : List ℤ) (place : ℕ) : Type 0 where
   pub len : length new ≡ length old
-  pub divided : number_at new place *ℤ scale ≡ entry *ℤ number_at old place -ℤ factor *ℤ other
-  pub others : (at : ℕ) → at ≢ place → number_at new at ≡ number_at old at
+  pub divided : entry new place *ℤ scale ≡ lead *ℤ entry old place -ℤ factor *ℤ other
+  pub others : (at : ℕ) → at ≢ place → entry new at ≡ entry old at

@@ -3,8 +3,9 @@
 use Rattle.std.specs.Prelude.{ℕ, ◌+◌, ◌*◌, ◌≡◌, ◌<◌, ◌≤◌, ◌⊎◌, ◌↔◌, List, [], ◌∷◌, ◌++◌, length, map, slice_index, slice_index_or, ℤ, pos, ◌+ℤ◌, ◌-ℤ◌, ◌*ℤ◌, ◌≤ℤ◌, unsigned_abs}
 use Rattle.std.specs.List.{range_with_len}
 use Rattle.criteria_model.specs.Lists.{IsRow}
-use Rattle.row_laws.specs.Rows.{dot}
+use Rattle.row_laws.specs.Rows.{entry, dot}
 use Rattle.minors.specs.Minor.{factorial}
+use Rattle.criteria_model.specs.declared.limits.TheConstants.{MAX_INCREMENTS}
 use Rattle.fraction_free.specs.declared.limits.TheConstants.{MAX_ROWS}
 use Rattle.fraction_free.specs.declared.loaded.LoadedRow.{LoadedRow}
 use Rattle.fraction_free.specs.Arrangement.{IsArrangement}
@@ -28,11 +29,11 @@ line_of dictionary row = slice_index_or dictionary.lines row []
 
 -- the number of a row at a column, by which the nonbasic variable is multiplied
 abbrev pub entry_in : DictionaryView → ℕ → ℕ → ℤ
-entry_in dictionary row column = slice_index_or (line_of dictionary row) column (pos 0)
+entry_in dictionary row column = entry (line_of dictionary row) column
 
 -- the constant of a row
 abbrev pub constant_in : DictionaryView → ℕ → ℤ
-constant_in dictionary row = slice_index_or (line_of dictionary row) dictionary.columns (pos 0)
+constant_in dictionary row = entry (line_of dictionary row) dictionary.columns
 
 -- the variables of the columns, and of the constants
 abbrev pub column_variables : DictionaryView → List ℕ
@@ -77,7 +78,7 @@ max_number = 25 * factorial 25
 -- what holds of each dictionary
 pub record IsDictionary (dictionary : DictionaryView) : Type 0 where
   pub columns_some : 1 ≤ dictionary.columns
-  pub columns_most : dictionary.columns ≤ 24
+  pub columns_most : dictionary.columns ≤ MAX_INCREMENTS
   pub columns_room : dictionary.columns ≤ dictionary.room_columns
   pub rows_room : length dictionary.loaded ≤ dictionary.room_rows
   pub rows_most : dictionary.room_rows ≤ MAX_ROWS

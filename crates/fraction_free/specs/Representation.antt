@@ -3,8 +3,10 @@
 use Rattle.std.specs.Prelude.{ℕ, ◌+◌, ◌-◌, ◌≡◌, ◌<◌, ◌≤◌, List, [], ◌∷◌, ◌++◌, length, take, drop, map, slice_index, slice_index_or, ℤ, pos, neg_ℤ, ◌+ℤ◌, ◌-ℤ◌, ◌*ℤ◌, ◌≤ℤ◌, ◌≢◌, ◌^◌, unsigned_abs, fold, if◌then◌else◌, ◌==◌, nat_le, nat_lt, slice_set, replicate}
 use Rattle.std.specs.List.{range_with_len}
 use Rattle.wide_step.specs.Quotient.{HasQuotient}
-use Rattle.fraction_free.specs.Changes.{number_at, IsOtherLine, IsPivotLine}
+use Rattle.row_laws.specs.Rows.{entry}
+use Rattle.fraction_free.specs.Changes.{IsOtherLine, IsPivotLine}
 use Rattle.minors.specs.Combination.{IsCombination, IsScale}
+use Rattle.criteria_model.specs.declared.limits.TheConstants.{MAX_INCREMENTS}
 use Rattle.fraction_free.specs.declared.limits.TheConstants.{MAX_ROWS, NUMBER_BOUND}
 use Rattle.fraction_free.specs.declared.loaded.LoadedRow.{LoadedRow}
 use Rattle.fraction_free.specs.Arrangement.{IsArrangement, Arranged}
@@ -51,7 +53,7 @@ view_of columns loaded scale order lines room_columns room_rows loads added = re
 -- scale and lines are minors, up to one common sign
 pub record AreMinors (columns : ℕ) (loaded : List LoadedRow) (scale : ℤ) (order : List ℕ) (lines : List (List ℤ)) : Type 0 where
   pub columns_some : 1 ≤ columns
-  pub columns_most : columns ≤ 24
+  pub columns_most : columns ≤ MAX_INCREMENTS
   pub lines_len : length lines ≡ length loaded
   pub order_len : length order ≡ columns + 1 + length loaded
   pub constant : slice_index order columns ≡ 0
@@ -67,7 +69,7 @@ pub record IsRepresentation (columns : ℕ) (loaded : List LoadedRow) (scale : �
   pub minors : AreMinors columns loaded scale places.order lines
   pub solutions : (x : ℕ → ℤ) → Satisfies (view_of columns loaded scale places.order lines room_columns room_rows loads added) x → HasSlacks columns loaded x
   pub columns_room : columns ≤ room_columns
-  pub columns_most : room_columns ≤ 24
+  pub columns_most : room_columns ≤ MAX_INCREMENTS
   pub rows_room : length loaded ≤ room_rows
   pub rows_most : room_rows ≤ MAX_ROWS
   pub places_room : room_columns + 1 + room_rows ≤ places.room
@@ -80,19 +82,19 @@ pub record CanExchange (scale : ℤ) (at column : ℕ) (lines : List (List ℤ))
   pub scale_size : unsigned_abs scale < NUMBER_BOUND
   pub len : (row : ℕ) → row < length lines → length (slice_index_or lines row []) ≡ length (slice_index_or lines at [])
   pub column_below : column < length (slice_index_or lines at [])
-  pub sizes : (row place : ℕ) → unsigned_abs (number_at (slice_index_or lines row []) place) < NUMBER_BOUND
+  pub sizes : (row place : ℕ) → unsigned_abs (entry (slice_index_or lines row []) place) < NUMBER_BOUND
   pub exact : (row place : ℕ) → row < length lines → row ≢ at → place < length (slice_index_or lines at []) → place ≢ column
-      → HasQuotient (number_at (slice_index_or lines at []) column *ℤ number_at (slice_index_or lines row []) place -ℤ number_at (slice_index_or lines row []) column *ℤ number_at (slice_index_or lines at []) place) scale
+      → HasQuotient (entry (slice_index_or lines at []) column *ℤ entry (slice_index_or lines row []) place -ℤ entry (slice_index_or lines row []) column *ℤ entry (slice_index_or lines at []) place) scale
 
 -- what the line of a new row asks: that the variables are the columns' and the lines', and sizes
 pub record CanCombine (columns : ℕ) (scale : ℤ) (order : List ℕ) (lines : List (List ℤ)) : Type 0 where
   pub columns_some : 1 ≤ columns
-  pub columns_most : columns ≤ 24
+  pub columns_most : columns ≤ MAX_INCREMENTS
   pub order_len : length order ≡ columns + 1 + length lines
   pub constant : slice_index order columns ≡ 0
   pub scale_size : unsigned_abs scale < NUMBER_BOUND
   pub len : (row : ℕ) → row < length lines → length (slice_index_or lines row []) ≡ columns + 1
-  pub sizes : (row place : ℕ) → unsigned_abs (number_at (slice_index_or lines row []) place) < NUMBER_BOUND
+  pub sizes : (row place : ℕ) → unsigned_abs (entry (slice_index_or lines row []) place) < NUMBER_BOUND
 
 -- what a pivot makes of the lines
 pub record AreExchanged (scale : ℤ) (at column : ℕ) (old new : List (List ℤ)) : Type 0 where
@@ -109,4 +111,4 @@ factors_at scale lines width place =
 -- a multiple of other numbers is added to each
 pub record IsAdded (times : ℤ) (old other new : List ℤ) : Type 0 where
   pub len : length new ≡ length old
-  pub sums : (at : ℕ) → at < length old → number_at new at ≡ number_at old at +ℤ times *ℤ number_at other at
+  pub sums : (at : ℕ) → at < length old → entry new at ≡ entry old at +ℤ times *ℤ entry other at

@@ -7,7 +7,7 @@ use crate::lines::{Line, first_row_with, pivot_lines, with_sign};
 use crate::loaded::LoadedRow;
 use crate::places::Places;
 use crate::slack_line::slack_line;
-use criteria_model::Row;
+use criteria_model::{MAX_INCREMENTS, Row};
 use std::alloc::Global;
 use std::marker::Model;
 
@@ -51,7 +51,7 @@ impl Dictionary {
     /// A dictionary with no rows, and with room for so many columns and rows.
     pub fn reserve(alloc: Global, cols: u8, rows: u32) -> Result<Dictionary, NoMemory>
         requires cols_some { 1 ≤ cols }
-        requires cols_most { cols ≤ 24 }
+        requires cols_most { cols ≤ MAX_INCREMENTS }
         requires rows_most { rows ≤ MAX_ROWS }
         ensures empty { IfOk result (λ d. d ≡ empty_dictionary cols cols rows 0 0) }
         ensures dictionary { IfOk result (λ d. IsDictionary d) }

@@ -1,7 +1,8 @@
 //! One row of a dictionary's numbers.
 ghost use Rattle.std.specs.Prelude.{◌≡◌, ◌≢◌, ℕ, ◌<◌, ◌≤◌, ◌^◌, length, replicate, slice_set, slice_index_or, vec_capacity, List, [], ℤ, pos, ◌+ℤ◌, ◌-ℤ◌, ◌*ℤ◌, unsigned_abs};
 ghost use Rattle.wide_step.specs.Quotient.{HasQuotient};
-ghost use Rattle.fraction_free.specs.Changes.{number_at, with_sign, IsOtherLine, IsPivotLine, IsExchangedAt};
+ghost use Rattle.row_laws.specs.Rows.{entry};
+ghost use Rattle.fraction_free.specs.Changes.{with_sign, IsOtherLine, IsPivotLine, IsExchangedAt};
 ghost use Rattle.fraction_free.specs.Representation.{CanExchange, AreExchanged};
 
 use crate::limits::{MAX_LINE, NUMBER_BOUND};
@@ -59,7 +60,7 @@ impl Line {
     /// The number at a place, counted from 0.
     pub fn get(&self, place: usize) -> i128
         requires { place < length self.now }
-        ensures { result ≡ number_at self.now place }
+        ensures { result ≡ entry self.now place }
     {
         let cells = &self.cells;
         cells[place]
@@ -80,10 +81,10 @@ impl Line {
     pub fn exchange(&mut self, pivot: &Line, column: usize, scale: &Divisor)
         requires len { length pivot.now ≡ length self.old }
         requires column { column < length self.old }
-        requires sizes { (place : ℕ) → unsigned_abs (number_at self.old place) < NUMBER_BOUND }
-        requires pivot_sizes { (place : ℕ) → unsigned_abs (number_at pivot.now place) < NUMBER_BOUND }
+        requires sizes { (place : ℕ) → unsigned_abs (entry self.old place) < NUMBER_BOUND }
+        requires pivot_sizes { (place : ℕ) → unsigned_abs (entry pivot.now place) < NUMBER_BOUND }
         requires exact { (place : ℕ) → place < length self.old → place ≢ column
-            → HasQuotient (number_at pivot.now column *ℤ number_at self.old place -ℤ number_at self.old column *ℤ number_at pivot.now place) scale.now }
+            → HasQuotient (entry pivot.now column *ℤ entry self.old place -ℤ entry self.old column *ℤ entry pivot.now place) scale.now }
         ensures { IsOtherLine scale.now column pivot.now self.old self.new }
     {
         let sign = pivot.get(column);
@@ -104,16 +105,16 @@ impl Line {
     /// One number after a pivot on another row, by the pivot's entry, the row's factor and the other
     /// row's number.
     #[inline]
-    fn exchange_at(&mut self, place: usize, entry: i128, factor: i128, other: i128, scale: &Divisor)
+    fn exchange_at(&mut self, place: usize, lead: i128, factor: i128, other: i128, scale: &Divisor)
         requires place { place < length self.old }
-        requires entry_size { unsigned_abs entry < NUMBER_BOUND }
-        requires number_size { unsigned_abs (number_at self.old place) < NUMBER_BOUND }
+        requires entry_size { unsigned_abs lead < NUMBER_BOUND }
+        requires number_size { unsigned_abs (entry self.old place) < NUMBER_BOUND }
         requires factor_size { unsigned_abs factor < NUMBER_BOUND }
         requires other_size { unsigned_abs other < NUMBER_BOUND }
-        requires exact { HasQuotient (entry *ℤ number_at self.old place -ℤ factor *ℤ other) scale.now }
-        ensures { IsExchangedAt scale.now entry factor other self.old self.new place }
+        requires exact { HasQuotient (lead *ℤ entry self.old place -ℤ factor *ℤ other) scale.now }
+        ensures { IsExchangedAt scale.now lead factor other self.old self.new place }
     {
-        let quotient = quotient_of(entry, self.get(place), factor, other, scale);
+        let quotient = quotient_of(lead, self.get(place), factor, other, scale);
         self.set(place, quotient);
     }
 
@@ -121,7 +122,7 @@ impl Line {
     pub fn leave(&mut self, column: usize, scale: i128)
         requires column { column < length self.old }
         requires scale_size { unsigned_abs scale < NUMBER_BOUND }
-        requires sizes { (place : ℕ) → unsigned_abs (number_at self.old place) < NUMBER_BOUND }
+        requires sizes { (place : ℕ) → unsigned_abs (entry self.old place) < NUMBER_BOUND }
         ensures { IsPivotLine scale column self.old self.new }
     {
         for place in 0..self.len() {
@@ -138,11 +139,11 @@ impl Line {
     pub fn add(&mut self, other: &Line, times: i128)
         requires len { length other.now ≡ length self.old }
         requires times { unsigned_abs times ≤ 25 }
-        requires sizes { (place : ℕ) → unsigned_abs (number_at self.old place) < 2 ^ 100 }
-        requires other_sizes { (place : ℕ) → unsigned_abs (number_at other.now place) < NUMBER_BOUND }
+        requires sizes { (place : ℕ) → unsigned_abs (entry self.old place) < 2 ^ 100 }
+        requires other_sizes { (place : ℕ) → unsigned_abs (entry other.now place) < NUMBER_BOUND }
         ensures len { length self.new ≡ length self.old }
         ensures sums { (place : ℕ) → place < length self.old
-            → number_at self.new place ≡ number_at self.old place +ℤ times *ℤ number_at other.now place }
+            → entry self.new place ≡ entry self.old place +ℤ times *ℤ entry other.now place }
     {
         for place in 0..self.len() {
             self.set(place, self.get(place) + times * other.get(place));
@@ -189,7 +190,7 @@ fn copy_at(lines: &[Line], at: usize) -> Line
 pub fn pivot_lines(lines: &mut Vec<Line>, at: usize, column: usize, scale: i128) -> i128
     requires at { at < length lines.old.items }
     requires exact { CanExchange scale at column lines.old.items }
-    ensures entry { result ≡ number_at (slice_index_or lines.old.items at []) column }
+    ensures entry { result ≡ entry (slice_index_or lines.old.items at []) column }
     ensures size { unsigned_abs result < NUMBER_BOUND }
     ensures lines { AreExchanged scale at column lines.old.items lines.new.items }
     ensures capacity { vec_capacity lines.new ≡ vec_capacity lines.old }
@@ -221,8 +222,8 @@ fn exchange_lines(lines: &mut [Line], at: usize, pivot: &Line, column: usize, sc
 /// The first line with a number that is not 0 at a column, or the number of lines.
 pub fn first_row_with(lines: &[Line], column: usize) -> usize
     requires { (row : ℕ) → row < length lines.now → column < length (slice_index_or lines.now row []) }
-    ensures before { (row : ℕ) → row < result → number_at (slice_index_or lines.now row []) column ≡ pos 0 }
-    ensures found { result < length lines.now → number_at (slice_index_or lines.now result []) column ≢ pos 0 }
+    ensures before { (row : ℕ) → row < result → entry (slice_index_or lines.now row []) column ≡ pos 0 }
+    ensures found { result < length lines.now → entry (slice_index_or lines.now result []) column ≢ pos 0 }
     ensures most { result ≤ length lines.now }
 {
     for row in 0..lines.len() {

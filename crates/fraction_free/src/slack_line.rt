@@ -3,7 +3,7 @@ ghost use Rattle.std.specs.Prelude.{◌≡◌, ◌⊎◌, ℕ, ◌+◌, ◌<◌,
 ghost use Rattle.criteria_model.specs.Lists.{IsRow};
 ghost use Rattle.minors.specs.Combination.{IsCombination};
 ghost use Rattle.fraction_free.specs.declared.loaded.LoadedRow.{LoadedRow};
-ghost use Rattle.fraction_free.specs.Changes.{number_at};
+ghost use Rattle.row_laws.specs.Rows.{entry};
 ghost use Rattle.fraction_free.specs.Dictionary.{IsLoadable};
 ghost use Rattle.fraction_free.specs.Representation.{AreMinors, row_of, slack_constant, square_of, factors_at, IsAdded, CanCombine};
 
@@ -47,8 +47,8 @@ fn add_variable(line: &mut Line, lines: &[Line], place: usize, scale: i128, time
     requires len { (row : ℕ) → row < length lines.now → length (slice_index_or lines.now row []) ≡ length line.old }
     requires times { unsigned_abs times ≤ 25 }
     requires scale_size { unsigned_abs scale < NUMBER_BOUND }
-    requires sizes { (at : ℕ) → unsigned_abs (number_at line.old at) < 2 ^ 100 }
-    requires line_sizes { (row at : ℕ) → unsigned_abs (number_at (slice_index_or lines.now row []) at) < NUMBER_BOUND }
+    requires sizes { (at : ℕ) → unsigned_abs (entry line.old at) < 2 ^ 100 }
+    requires line_sizes { (row at : ℕ) → unsigned_abs (entry (slice_index_or lines.now row []) at) < NUMBER_BOUND }
     ensures { IsAdded times line.old (factors_at scale lines.now (length line.old) place) line.new }
 {
     let width = line.len();

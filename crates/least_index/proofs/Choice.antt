@@ -5,10 +5,10 @@ use Rattle.std.proofs.Math.IntN.{*ℤ_comm}
 use Rattle.std.proofs.lemmas.Int.{ints}
 use Rattle.std.proofs.lemmas.Bool.{cond-true, ltb-true, not-true, not-false, true≢false, false≢true}
 use borrow.Author.Differences.{lt-true, lt-false}
-use Rattle.minors.proofs.Ring.{sums, mul_zero}
+use Rattle.row_laws.proofs.Integers.{sums, mul-zero}
 use Rattle.least_index.specs.Dictionary.{RationalDictionary, sum_below, term, IsSolution}
 use Rattle.least_index.specs.Rule.{is_infeasible, helps, leaving, entering, is_end, next}
-use Rattle.least_index.proofs.Signs.{mul_pos}
+use Rattle.row_laws.proofs.Signs.{mul_pos}
 use Rattle.least_index.proofs.Sums.{sum-zero}
 use Rattle.least_index.proofs.First.{first-below, first-passes}
 use Rattle.least_index.proofs.Exchange.{IsExchange}
@@ -106,7 +106,7 @@ basic_solution t v = cond (t.is_basic v) (t.constant v) (pos 0)
 
 no_term : (b : Bool) (e c : ℤ) → cond b (pos 0) (e *ℤ cond b c (pos 0)) ≡ pos 0
 no_term true e c = refl
-no_term false e c = mul_zero e
+no_term false e c = mul-zero e
 
 plus_zero : (a b : ℤ) → b ≡ pos 0 → a ≡ a +ℤ b
 plus_zero a b e = omega (arith, sums)

@@ -2,10 +2,10 @@
 use Rattle.std.proofs.Common.{◌≡◌, ◌≢◌, ℕ, ◌<◌, Bool, true, false, cond, ℤ, pos, neg_ℤ, ◌+ℤ◌, ◌-ℤ◌, ◌*ℤ◌, ◌<ℤ◌, refl, sym, ap, ◌∙◌, ◌⊎◌, inl, inr, arith}
 use Rattle.std.specs.Prelude.{◌==◌}
 use Rattle.std.proofs.lemmas.Bool.{cond-true, cond-false, cases_Bool, eq-eqb, eqb-true, true≢false, false≢true}
-use Rattle.minors.proofs.Ring.{sums, mul-add, mul-sub, sub-mul, neg-mul, mul_assoc, mul_swap, mul_zero, zero_mul, cancel}
+use Rattle.row_laws.proofs.Integers.{sums, mul-add, mul-sub, sub-mul, neg-mul, mul_assoc, mul_left_comm, mul-zero, zero-mul, cancel}
 use Rattle.least_index.specs.Dictionary.{RationalDictionary, sum_below, term, right_side, IsSolution, exchanged}
 use Rattle.least_index.proofs.Sums.{sum-ext, sum-mix, at_place, sum-at_place}
-use Rattle.least_index.proofs.Signs.{positive_is_not_zero}
+use Rattle.row_laws.proofs.Signs.{positive_is_not_zero}
 
 -- a pivot on a positive entry
 pub record IsExchange (t : RationalDictionary) (leaving entering : ℕ) : Type 0 where
@@ -27,12 +27,12 @@ other_step true false true s p evc evw erw xw xr h k = absurd (true≢false (h r
 other_step true false false s p evc evw erw xw xr h k =
     let one : p *ℤ (evw *ℤ xw) ≡ p *ℤ (evc *ℤ xw) = ap (λ (e : ℤ). p *ℤ (e *ℤ xw)) (h refl).0 in
     let two : evc *ℤ (erw *ℤ xw) ≡ evc *ℤ (p *ℤ xw) = ap (λ (e : ℤ). evc *ℤ (e *ℤ xw)) (h refl).1 in
-    omega (arith, sums, mul_swap p evc xw, one, two)
+    omega (arith, sums, mul_left_comm p evc xw, one, two)
 other_step false true false s p evc evw erw xw xr h k = absurd (false≢true (k refl).0)
 other_step false true true s p evc evw erw xw xr h k =
     let one : s *ℤ evc *ℤ xw ≡ s *ℤ evc *ℤ xr = ap (λ (e : ℤ). s *ℤ evc *ℤ e) (k refl).1 in
-    omega (arith, sums, one, mul_zero p, mul_zero evc)
-other_step false false true s p evc evw erw xw xr h k = omega (arith, sums, mul_zero p, mul_zero evc)
+    omega (arith, sums, one, mul-zero p, mul-zero evc)
+other_step false false true s p evc evw erw xw xr h k = omega (arith, sums, mul-zero p, mul-zero evc)
 other_step false false false s p evc evw erw xw xr h k =
     omega (arith, sums, sub-mul (p *ℤ evw) (evc *ℤ erw) xw, mul_assoc p evw xw, mul_assoc evc erw xw)
 
@@ -56,14 +56,14 @@ entering_step true false true s p erw xw xr xc h k = absurd (true≢false (h ref
 entering_step true false false s p erw xw xr xc h k =
     let one : s *ℤ (erw *ℤ xw) ≡ s *ℤ (p *ℤ xw) = ap (λ (e : ℤ). s *ℤ (e *ℤ xw)) (h refl).0 in
     let two : s *ℤ (p *ℤ xw) ≡ s *ℤ (p *ℤ xc) = ap (λ (e : ℤ). s *ℤ (p *ℤ e)) (h refl).1 in
-    omega (arith, sums, zero_mul (erw *ℤ xw), one, two)
+    omega (arith, sums, zero-mul (erw *ℤ xw), one, two)
 entering_step false true false s p erw xw xr xc h k = absurd (false≢true (k refl).0)
 entering_step false true true s p erw xw xr xc h k =
     let one : s *ℤ s *ℤ xw ≡ s *ℤ s *ℤ xr = ap (λ (e : ℤ). s *ℤ s *ℤ e) (k refl).1 in
-    omega (arith, sums, one, mul_zero s, mul_zero (pos 0))
-entering_step false false true s p erw xw xr xc h k = omega (arith, sums, mul_zero s, mul_zero (pos 0))
+    omega (arith, sums, one, mul-zero s, mul-zero (pos 0))
+entering_step false false true s p erw xw xr xc h k = omega (arith, sums, mul-zero s, mul-zero (pos 0))
 entering_step false false false s p erw xw xr xc h k =
-    omega (arith, sums, zero_mul (erw *ℤ xw), neg-mul (s *ℤ erw) xw, mul_assoc s erw xw)
+    omega (arith, sums, zero-mul (erw *ℤ xw), neg-mul (s *ℤ erw) xw, mul_assoc s erw xw)
 
 entering_term : (vc wc wr bw : Bool) (z s p erw xw xr xc : ℤ)
     → vc ≡ true
@@ -78,13 +78,13 @@ other_algebra : (one s p evc cv cr sv sr xr sums_new : ℤ)
     → sums_new ≡ p *ℤ sv -ℤ evc *ℤ sr +ℤ s *ℤ evc *ℤ xr +ℤ pos 0
     → (p *ℤ cv -ℤ evc *ℤ cr) *ℤ one +ℤ sums_new ≡ p *ℤ (cv *ℤ one +ℤ sv) +ℤ evc *ℤ (s *ℤ xr -ℤ (cr *ℤ one +ℤ sr))
 other_algebra one s p evc cv cr sv sr xr sums_new e =
-    omega (arith, sums, e, sub-mul (p *ℤ cv) (evc *ℤ cr) one, mul_assoc p cv one, mul_assoc evc cr one, mul-add p (cv *ℤ one) sv, mul-sub evc (s *ℤ xr) (cr *ℤ one +ℤ sr), mul-add evc (cr *ℤ one) sr, mul_assoc s evc xr, mul_swap s evc xr)
+    omega (arith, sums, e, sub-mul (p *ℤ cv) (evc *ℤ cr) one, mul_assoc p cv one, mul_assoc evc cr one, mul-add p (cv *ℤ one) sv, mul-sub evc (s *ℤ xr) (cr *ℤ one +ℤ sr), mul-add evc (cr *ℤ one) sr, mul_assoc s evc xr, mul_left_comm s evc xr)
 
 entering_algebra : (one s p cr sr xr xc sums_new : ℤ)
     → sums_new ≡ pos 0 *ℤ sr -ℤ s *ℤ sr +ℤ s *ℤ s *ℤ xr +ℤ s *ℤ (p *ℤ xc)
     → neg_ℤ (s *ℤ cr) *ℤ one +ℤ sums_new ≡ s *ℤ (s *ℤ xr -ℤ (cr *ℤ one +ℤ sr) +ℤ p *ℤ xc)
 entering_algebra one s p cr sr xr xc sums_new e =
-    omega (arith, sums, e, zero_mul sr, neg-mul (s *ℤ cr) one, mul_assoc s cr one, mul_assoc s s xr, mul-add s (s *ℤ xr -ℤ (cr *ℤ one +ℤ sr)) (p *ℤ xc), mul-sub s (s *ℤ xr) (cr *ℤ one +ℤ sr), mul-add s (cr *ℤ one) sr)
+    omega (arith, sums, e, zero-mul sr, neg-mul (s *ℤ cr) one, mul_assoc s cr one, mul_assoc s s xr, mul-add s (s *ℤ xr -ℤ (cr *ℤ one +ℤ sr)) (p *ℤ xc), mul-sub s (s *ℤ xr) (cr *ℤ one +ℤ sr), mul-add s (cr *ℤ one) sr)
 
 -- the new right side of a variable other than the entering one
 pub other_right_side : (t : RationalDictionary) (leaving entering : ℕ) (one : ℤ) (x : ℕ → ℤ) (v : ℕ)
@@ -140,9 +140,9 @@ still_basic false false b e h = h
 
 forward_other : (s p xv rv evc xr rr : ℤ) → s *ℤ xv ≡ rv → s *ℤ xr ≡ rr → s *ℤ p *ℤ xv ≡ p *ℤ rv +ℤ evc *ℤ (s *ℤ xr -ℤ rr)
 forward_other s p xv rv evc xr rr e r =
-    let none : evc *ℤ (s *ℤ xr -ℤ rr) ≡ pos 0 = ap (λ (n : ℤ). evc *ℤ n) (difference (s *ℤ xr) rr r) ∙ mul_zero evc in
+    let none : evc *ℤ (s *ℤ xr -ℤ rr) ≡ pos 0 = ap (λ (n : ℤ). evc *ℤ n) (difference (s *ℤ xr) rr r) ∙ mul-zero evc in
     let scaled : p *ℤ (s *ℤ xv) ≡ p *ℤ rv = ap (λ (n : ℤ). p *ℤ n) e in
-    omega (arith, sums, none, scaled, mul_assoc s p xv, mul_swap s p xv)
+    omega (arith, sums, none, scaled, mul_assoc s p xv, mul_left_comm s p xv)
   where
     difference : (a b : ℤ) → a ≡ b → a -ℤ b ≡ pos 0
     difference a b e = omega (arith, sums)
@@ -182,8 +182,8 @@ back_leaving s p xc a ne e =
 
 back_other : (s p xv rv evc a : ℤ) → p ≢ pos 0 → a ≡ pos 0 → s *ℤ p *ℤ xv ≡ p *ℤ rv +ℤ evc *ℤ a → s *ℤ xv ≡ rv
 back_other s p xv rv evc a ne none e =
-    let gone : evc *ℤ a ≡ pos 0 = ap (λ (n : ℤ). evc *ℤ n) none ∙ mul_zero evc in
-    cancel p (s *ℤ xv) rv ne (omega (arith, sums, e, gone, mul_assoc s p xv, mul_swap s p xv))
+    let gone : evc *ℤ a ≡ pos 0 = ap (λ (n : ℤ). evc *ℤ n) none ∙ mul-zero evc in
+    cancel p (s *ℤ xv) rv ne (omega (arith, sums, e, gone, mul_assoc s p xv, mul_left_comm s p xv))
 
 -- and the other way
 pub exchange_reflects : (t : RationalDictionary) (leaving entering : ℕ) (one : ℤ) (x : ℕ → ℤ)

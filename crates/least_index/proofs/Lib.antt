@@ -1,4 +1,3 @@
-pub mod Signs
 pub mod Sums
 pub mod Exchange
 pub mod First

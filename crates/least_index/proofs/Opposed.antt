@@ -4,9 +4,9 @@ use Rattle.std.specs.Prelude.{nat_lt, ◌==◌}
 use Rattle.std.proofs.Math.IntN.{*ℤ_comm}
 use Rattle.std.proofs.lemmas.Int.{ints}
 use Rattle.std.proofs.lemmas.Bool.{cond-true, cond-false, cases_Bool, ltb-true, ltb-false, eqb-true, eqb-false, true≢false}
-use Rattle.minors.proofs.Ring.{mul_zero}
+use Rattle.row_laws.proofs.Integers.{mul-zero}
 use Rattle.least_index.specs.Dictionary.{RationalDictionary, sum_below, term, IsSolution}
-use Rattle.least_index.proofs.Signs.{mul_nonneg, mul_nonpos, mul_neg, nonneg_of_pos}
+use Rattle.row_laws.proofs.Signs.{mul_nonneg, mul_nonpos, mul_neg, nonneg_of_pos}
 use Rattle.least_index.proofs.Sums.{sum-nonpositive}
 use Rattle.least_index.proofs.Choice.{IsChoice, basic_solution, basic_solution_satisfies}
 
@@ -22,7 +22,7 @@ nonpos_product : (a b : ℤ) → pos 0 ≤ℤ a → b ≤ℤ pos 0 → (a *ℤ b
 nonpos_product a b h k = subst (λ (n : ℤ). n ≤ℤ pos 0) (*ℤ_comm b a) (mul_nonpos b a k h)
 
 zero_product : (a b : ℤ) → b ≡ pos 0 → (a *ℤ b) ≤ℤ pos 0
-zero_product a b e = subst (λ (n : ℤ). n ≤ℤ pos 0) (sym (ap (λ (n : ℤ). a *ℤ n) e ∙ mul_zero a)) (omega (arith, ints))
+zero_product a b e = subst (λ (n : ℤ). n ≤ℤ pos 0) (sym (ap (λ (n : ℤ). a *ℤ n) e ∙ mul-zero a)) (omega (arith, ints))
 
 contradiction : (s x c one total : ℤ) → pos 0 <ℤ s → pos 0 ≤ℤ x → c <ℤ pos 0 → pos 0 <ℤ one → total ≤ℤ pos 0 → s *ℤ x ≡ c *ℤ one +ℤ total → ⊥
 contradiction s x c one total ps px nc po nt e =

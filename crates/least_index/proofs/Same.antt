@@ -5,10 +5,10 @@ use Rattle.std.proofs.Math.IntN.{*ℤ_comm}
 use Rattle.std.proofs.lemmas.Int.{ints}
 use Rattle.std.proofs.lemmas.Bool.{cond-true, cases_Bool, ltb-true, eqb-true, true≢false, false≢true}
 use Rattle.std.specs.Cmp.{both_ways}
-use Rattle.minors.proofs.Ring.{sums, mul_zero}
+use Rattle.row_laws.proofs.Integers.{sums, mul-zero}
 use Rattle.least_index.specs.Dictionary.{RationalDictionary, sum_below, term, right_side, IsSolution}
 use Rattle.least_index.specs.Rule.{first, is_infeasible, helps, leaving, entering, is_end, next, pivots_within, Covers}
-use Rattle.least_index.proofs.Signs.{nonneg_of_pos, mul_nonneg, mul_nonpos, mul_neg, mul_pos}
+use Rattle.row_laws.proofs.Signs.{nonneg_of_pos, mul_nonneg, mul_nonpos, mul_neg, mul_pos}
 use Rattle.least_index.proofs.Sums.{sum-zero, sum-ext, at_place, sum-at_place}
 use Rattle.least_index.proofs.First.{first-ext, first-passes}
 use Rattle.least_index.proofs.Exchange.{exchange_keeps, exchange_reflects}
@@ -55,7 +55,7 @@ zero_after a b e = omega (arith, sums)
 no_term_of : (b d : Bool) (e c : ℤ) → b ≡ d → cond b (pos 0) (e *ℤ cond d c (pos 0)) ≡ pos 0
 no_term_of true d e c h = refl
 no_term_of false true e c h = absurd (false≢true h)
-no_term_of false false e c h = mul_zero e
+no_term_of false false e c h = mul-zero e
 
 pub same_constants : (t other : RationalDictionary) → Covers t other → (v : ℕ) → v < t.size → t.is_basic v ≡ true
     → other.scale *ℤ t.constant v ≡ other.constant v *ℤ t.scale
@@ -78,10 +78,10 @@ unit_term true d true entry at basic scale h k = absurd (true≢false (k refl).0
 unit_term true d false entry at basic scale h k = refl
 unit_term false true e entry at basic scale h k = absurd (false≢true h)
 unit_term false false true entry at basic scale h k = ap (λ (n : ℤ). n *ℤ scale) (k refl).1
-unit_term false false false entry at basic scale h k = mul_zero entry
+unit_term false false false entry at basic scale h k = mul-zero entry
 
 zero_before : (a b : ℤ) → a *ℤ pos 0 +ℤ b ≡ b
-zero_before a b = omega (arith, sums, mul_zero a)
+zero_before a b = omega (arith, sums, mul-zero a)
 
 unit_sum : (t u : RationalDictionary) (w v : ℕ) → u.size ≡ t.size → ((j : ℕ) → j < t.size → u.is_basic j ≡ t.is_basic j) → w < t.size → t.is_basic w ≡ false
     → right_side u (pos 0) (unit_solution t w) v ≡ u.entry v w *ℤ t.scale

@@ -3,7 +3,7 @@ use Rattle.std.proofs.Common.{◌≡◌, ◌≢◌, ℕ, zero, suc, ◌<◌, ◌
 use Rattle.std.specs.Prelude.{◌==◌}
 use Rattle.std.proofs.lemmas.Int.{ints}
 use Rattle.std.proofs.lemmas.Bool.{cond-false, eqb-true, eqb-false, false_from_ne_true}
-use Rattle.minors.proofs.Ring.{sums, mul-add, mul_zero}
+use Rattle.row_laws.proofs.Integers.{sums, mul-add, mul-zero}
 use Rattle.least_index.specs.Dictionary.{sum_below}
 
 pub sum-suc : (f : ℕ → ℤ) (n : ℕ) → sum_below f (suc n) ≡ sum_below f n +ℤ f n
@@ -44,7 +44,7 @@ mix_step a b f g h k p q r s = omega (arith, sums, mul-add a p f, mul-add b q g)
 pub sum-mix : (a b : ℤ) (f g h k : ℕ → ℤ) (n : ℕ)
     → sum_below (λ w. a *ℤ f w -ℤ b *ℤ g w +ℤ h w +ℤ k w) n ≡ a *ℤ sum_below f n -ℤ b *ℤ sum_below g n +ℤ sum_below h n +ℤ sum_below k n
 unfolding sum_below
-sum-mix a b f g h k zero = omega (arith, sums, mul_zero a, mul_zero b)
+sum-mix a b f g h k zero = omega (arith, sums, mul-zero a, mul-zero b)
 sum-mix a b f g h k (suc n) =
     ap (λ (s : ℤ). s +ℤ (a *ℤ f n -ℤ b *ℤ g n +ℤ h n +ℤ k n)) (sum-mix a b f g h k n)
     ∙ mix_step a b (f n) (g n) (h n) (k n) (sum_below f n) (sum_below g n) (sum_below h n) (sum_below k n)

@@ -5,7 +5,7 @@ use Rattle.std.specs.List.{range_with_len, AllByRecursion}
 use Rattle.std.proofs.lemmas.Int.{unsigned_abs-mul}
 use Rattle.std.proofs.lemmas.Bool.Decides.{nat_tests}
 use Rattle.minors.specs.Minor.{expansion, minor_at, factorial}
-use Rattle.minors.proofs.Ring.{abs-sub}
+use Rattle.row_laws.proofs.Integers.{unsigned_abs-sub}
 use Rattle.minors.proofs.MinorAt.{nothing}
 
 -- the product of the columns' bounds
@@ -18,7 +18,7 @@ abs_product a b m n h k = omega (arith, unsigned_abs-mul a b, mul-le-mul h k)
 
 bound_step : (a f e : ℤ) (w k p l : ℕ) → unsigned_abs a ≤ w → unsigned_abs f ≤ k * p → unsigned_abs e ≤ l * ((k * w) * p)
     → unsigned_abs (a *ℤ f -ℤ e) ≤ suc l * (k * (w * p))
-bound_step a f e w k p l h i j = omega (arith, abs-sub (a *ℤ f) e, abs_product a f w (k * p) h i)
+bound_step a f e w k p l h i j = omega (arith, unsigned_abs-sub (a *ℤ f) e, abs_product a f w (k * p) h i)
 
 expansion_bound : (P : ℕ → Type 0) (most : ℕ → ℕ) (row : ℕ → ℤ) (rest : List ℕ → ℤ) (k : ℕ) (columns : List ℕ)
     → ((c : ℕ) → P c → unsigned_abs (row c) ≤ most c)

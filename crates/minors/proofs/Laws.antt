@@ -9,13 +9,15 @@ use Rattle.std.proofs.Math.Nat.{mul-le-mul}
 use Rattle.std.proofs.lemmas.Bool.{cases_eq, cases_lt}
 use Rattle.std.proofs.lemmas.Bool.Decides.{nat_tests}
 use Rattle.std.proofs.lemmas.Int.{unsigned_abs-mul}
-use Rattle.minors.specs.Minor.{entry, minor, minor_at, factorial, HasSmallEntries}
-use Rattle.minors.specs.Combination.{dot, column_of, IsCombination}
+use Rattle.minors.specs.Minor.{minor, minor_at, factorial, HasSmallEntries}
+use Rattle.row_laws.specs.Rows.{dot, entry}
+use Rattle.minors.specs.Combination.{column_of, IsCombination}
 use Rattle.minors.specs.Laws.{LinearInEachRow, ZeroAtEqualRows, OneAtIdentity, ScaleOfIdentity, ReplacedRow, FactorIsMinor, ScaleAfterPivot, PivotDivides, PivotKeepsCombination, LeavingRowIsCombination, SquareRowIsCombination, SumOfCombinations, CombinationAtPoint, NegatedCombination, NegatedScale, MinorIsBounded, FactorIsBounded, ScaleIsBounded, BoundIsSmall}
-use Rattle.minors.proofs.Ring.{sums, mul-add, mul_assoc, mul_swap, zero_mul, one_mul, neg-mul, mul-neg, cancel, cancel_ℕ, abs_positive, same_size, abs-neg}
+use Rattle.row_laws.proofs.Integers.{sums, mul-add, mul_assoc, mul_left_comm, zero-mul, one-mul, neg-mul, mul-neg, cancel, cancel_ℕ, abs_positive, same_size, unsigned_abs-neg}
 use Rattle.minors.proofs.MinorAt.{nothing, minor_at_linear, minor_at_equal, minor_at_replaced, minor_at_within, all_in_range, minor_at_identity, sum_of_rows}
 use Rattle.minors.proofs.Bound.{minor_at_bound, product_of_range, last_most, product_of, factorial_mono, below_power}
-use Rattle.minors.proofs.Total.{total, total_zero, dot_is_total, total_same, total_linear, total_exchange, total_single, dot_neg}
+use Rattle.row_laws.proofs.RowLemmas.{dot-neg_left}
+use Rattle.row_laws.proofs.Totals.{total, total-zero, dot_is_total, total_same, total_linear, total_exchange, total_single}
 
 abbrev columns_of : List (List ℤ) → List ℕ
 columns_of rows = range_with_len 0 (length rows)
@@ -80,7 +82,7 @@ columns_map [] c = refl
 columns_map (r ∷ rows) c = ap (λ (tail : List ℤ). entry r c ∷ tail) (columns_map rows c)
 
 scaled : (s m p n : ℤ) → n ≡ s *ℤ m +ℤ pos 0 *ℤ p → s *ℤ m ≡ n
-scaled s m p n e = omega (arith, sums, zero_mul p)
+scaled s m p n e = omega (arith, sums, zero-mul p)
 
 pub replaced_row : ReplacedRow
 replaced_row s row factors rows k comb h =
@@ -131,7 +133,7 @@ exchange_step : (p s r row entering t g number q all a b : ℤ)
 exchange_step p s r row entering t g number q all a b sum is_g is_all is_a is_b is_q =
     let none : g ≡ pos 0 = omega (arith, sums, is_g, *ℤ_comm p r, neg-mul r p) in
     exchange_sums t (g *ℤ number) all (q *ℤ entering) (p *ℤ a) (neg_ℤ r *ℤ b) ((p *ℤ s) *ℤ row) (r *ℤ (s *ℤ entering)) sum
-    (ap (λ (n : ℤ). n *ℤ number) none ∙ zero_mul number)
+    (ap (λ (n : ℤ). n *ℤ number) none ∙ zero-mul number)
     is_all
     (ap (λ (n : ℤ). p *ℤ n) is_a ∙ sym (mul_assoc p s row))
     (ap (λ (n : ℤ). neg_ℤ r *ℤ n) is_b ∙ neg-mul r (s *ℤ entering))
@@ -182,7 +184,7 @@ quotient_of p s d e m q nonzero ne size minors replaced =
           let is_e : e ≡ neg_ℤ p = cancel s e (neg_ℤ p) nonzero (minors ∙ ap (λ (n : ℤ). p *ℤ n) is_d ∙ mul-neg p s ∙ ap neg_ℤ (*ℤ_comm p s) ∙ sym (mul-neg s p)) in
           let scaled : p *ℤ (s *ℤ m) ≡ p *ℤ neg_ℤ q = sym (mul_assoc p s m) ∙ replaced ∙ ap (λ (n : ℤ). q *ℤ n) is_e ∙ mul-neg q p ∙ ap neg_ℤ (*ℤ_comm q p) ∙ sym (mul-neg p q) in
           let is_q : s *ℤ m ≡ neg_ℤ q = cancel p (s *ℤ m) (neg_ℤ q) ne scaled in
-          (neg_ℤ m, neg-mul m s ∙ ap neg_ℤ (*ℤ_comm m s ∙ is_q) ∙ twice q, abs-neg m)
+          (neg_ℤ m, neg-mul m s ∙ ap neg_ℤ (*ℤ_comm m s ∙ is_q) ∙ twice q, unsigned_abs-neg m)
     ]
   where
     twice : (n : ℤ) → neg_ℤ (neg_ℤ n) ≡ n
@@ -230,15 +232,15 @@ pivot_keeps_combination s entering pivot row factors new rows k nonzero of_enter
     }
   where
     widened : (s n : ℤ) → n *ℤ s ≡ s *ℤ n +ℤ pos 0 *ℤ n
-    widened s n = omega (arith, sums, *ℤ_comm n s, zero_mul n)
+    widened s n = omega (arith, sums, *ℤ_comm n s, zero-mul n)
 
     divided : (p s row d m t : ℤ) → s ≢ pos 0 → (p *ℤ s) *ℤ row ≡ d → d ≡ m → m ≡ s *ℤ t +ℤ pos 0 *ℤ t → p *ℤ row ≡ t
-    divided p s row d m t nonzero e same sum = cancel s (p *ℤ row) t nonzero (sym (ap (λ (n : ℤ). n *ℤ row) (*ℤ_comm p s) ∙ mul_assoc s p row) ∙ e ∙ same ∙ sum ∙ omega (arith, sums, zero_mul t))
+    divided p s row d m t nonzero e same sum = cancel s (p *ℤ row) t nonzero (sym (ap (λ (n : ℤ). n *ℤ row) (*ℤ_comm p s) ∙ mul_assoc s p row) ∙ e ∙ same ∙ sum ∙ omega (arith, sums, zero-mul t))
 
 -- ---- the square's own rows, sums and signs
 
 one_negative : (n : ℤ) → pos 0 -ℤ n ≡ negsuc 0 *ℤ n +ℤ pos 0 *ℤ n
-one_negative n = omega (arith, sums, neg-mul (pos 1) n, one_mul n, zero_mul n)
+one_negative n = omega (arith, sums, neg-mul (pos 1) n, one-mul n, zero-mul n)
 
 leaving_step : (p s entering t g number q all b : ℤ)
     → t +ℤ g *ℤ number ≡ all +ℤ q *ℤ entering
@@ -306,20 +308,20 @@ sum_of_combinations s x y a b row of_a of_b factors rows comb_a comb_b row_is le
     joined : (s x y a b n ta tb t : ℤ) → n ≡ x *ℤ a +ℤ y *ℤ b → t ≡ x *ℤ ta +ℤ y *ℤ tb → s *ℤ a ≡ ta → s *ℤ b ≡ tb → s *ℤ n ≡ t
     joined s x y a b n ta tb t is_n is_t is_a is_b =
         ap (λ (m : ℤ). s *ℤ m) is_n ∙ mul-add s (x *ℤ a) (y *ℤ b)
-        ∙ ap (λ (m : ℤ). m +ℤ s *ℤ (y *ℤ b)) (mul_swap s x a ∙ ap (λ (m : ℤ). x *ℤ m) is_a)
-        ∙ ap (λ (m : ℤ). x *ℤ ta +ℤ m) (mul_swap s y b ∙ ap (λ (m : ℤ). y *ℤ m) is_b)
+        ∙ ap (λ (m : ℤ). m +ℤ s *ℤ (y *ℤ b)) (mul_left_comm s x a ∙ ap (λ (m : ℤ). x *ℤ m) is_a)
+        ∙ ap (λ (m : ℤ). x *ℤ ta +ℤ m) (mul_left_comm s y b ∙ ap (λ (m : ℤ). y *ℤ m) is_b)
         ∙ sym is_t
 
 -- the two sums of a combination's values change places
 total_of_columns : (factors : List ℤ) (rows : List (List ℤ)) (point : List ℤ) → total (λ c. dot factors (column_of rows c)) point ≡ dot factors (map (λ r. dot r point) rows)
-total_of_columns [] rows point = total_zero point
-total_of_columns (x ∷ factors) [] point = total_zero point
+total_of_columns [] rows point = total-zero point
+total_of_columns (x ∷ factors) [] point = total-zero point
 total_of_columns (x ∷ factors) (r ∷ rows) point =
     let rest : ℕ → ℤ = λ c. dot factors (column_of rows c) in
-    total_same (λ c. x *ℤ entry r c +ℤ rest c) (λ c. x *ℤ entry r c +ℤ pos 1 *ℤ rest c) point (λ c l. ap (λ (n : ℤ). x *ℤ entry r c +ℤ n) (sym (one_mul (rest c))))
+    total_same (λ c. x *ℤ entry r c +ℤ rest c) (λ c. x *ℤ entry r c +ℤ pos 1 *ℤ rest c) point (λ c l. ap (λ (n : ℤ). x *ℤ entry r c +ℤ n) (sym (one-mul (rest c))))
     ∙ total_linear x (pos 1) (entry r) rest point
     ∙ ap (λ (n : ℤ). x *ℤ n +ℤ pos 1 *ℤ total rest point) (sym (dot_is_total r point))
-    ∙ ap (λ (n : ℤ). x *ℤ dot r point +ℤ n) (one_mul (total rest point) ∙ total_of_columns factors rows point)
+    ∙ ap (λ (n : ℤ). x *ℤ dot r point +ℤ n) (one-mul (total rest point) ∙ total_of_columns factors rows point)
 
 pub combination_at_point : CombinationAtPoint
 combination_at_point s row factors point rows comb h =
@@ -331,16 +333,16 @@ combination_at_point s row factors point rows comb h =
     ∙ total_of_columns factors rows point
   where
     widened : (s n : ℤ) → s *ℤ n ≡ s *ℤ n +ℤ pos 0 *ℤ n
-    widened s n = omega (arith, sums, zero_mul n)
+    widened s n = omega (arith, sums, zero-mul n)
 
 pub negated_combination : NegatedCombination
 negated_combination s row factors rows comb = record {
   len = length-map factors neg_ℤ ∙ comb.len;
-  each = λ c l. neg-mul s (entry row c) ∙ ap neg_ℤ (comb.each c l) ∙ sym (dot_neg factors (column_of rows c));
+  each = λ c l. neg-mul s (entry row c) ∙ ap neg_ℤ (comb.each c l) ∙ sym (dot-neg_left factors (column_of rows c));
 }
 
 pub negated_scale : NegatedScale
-negated_scale s rows scale = record { nonzero = λ e. scale.nonzero (still s e); size = abs-neg s ∙ scale.size }
+negated_scale s rows scale = record { nonzero = λ e. scale.nonzero (still s e); size = unsigned_abs-neg s ∙ scale.size }
   where
     still : (s : ℤ) → neg_ℤ s ≡ pos 0 → s ≡ pos 0
     still s e = omega (arith, sums)

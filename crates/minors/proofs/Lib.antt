@@ -1,7 +1,5 @@
-pub mod Ring
 pub mod Expansion
 pub mod MinorAt
 pub mod Bound
-pub mod Total
 pub mod Laws
 mod Samples

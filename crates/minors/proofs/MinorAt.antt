@@ -4,8 +4,8 @@ use Rattle.std.proofs.lemmas.List.{set-get_or, get_or-set_same, get_or-set_other
 use Rattle.std.specs.List.{range_with_len, AllByRecursion}
 use mathlib.Core.Path.{fun_ext}
 use Rattle.minors.specs.Minor.{expansion, minor_at}
-use Rattle.minors.specs.Combination.{dot}
-use Rattle.minors.proofs.Ring.{sums, zero_mul, mul_zero, one_mul}
+use Rattle.row_laws.specs.Rows.{dot}
+use Rattle.row_laws.proofs.Integers.{sums, zero-mul, mul-zero, one-mul}
 use Rattle.minors.proofs.Expansion.{expansion_linear, expansion_rest_linear, expansion_swap, expansion_twice, expansion_rest_zero}
 
 -- the row that has only zeros
@@ -24,7 +24,7 @@ minor_at_linear (r ∷ rows) (suc k) x y a b columns h =
     ∙ expansion_rest_linear x y r (minor_at (set rows k a)) (minor_at (set rows k b)) columns
 
 no_products : (p q : ℤ) → pos 0 *ℤ p +ℤ pos 0 *ℤ q ≡ pos 0
-no_products p q = omega (arith, sums, zero_mul p, zero_mul q)
+no_products p q = omega (arith, sums, zero-mul p, zero-mul q)
 
 minor_at_nothing : (rows : List (ℕ → ℤ)) (k : ℕ) (columns : List ℕ) → k < length rows → minor_at (set rows k nothing) columns ≡ pos 0
 minor_at_nothing rows k columns h =
@@ -41,9 +41,9 @@ minor_at_sum rows k columns h [] others = minor_at_nothing rows k columns h
 minor_at_sum rows k columns h (x ∷ factors) [] = minor_at_nothing rows k columns h
 minor_at_sum rows k columns h (x ∷ factors) (r ∷ others) =
     let rest : ℕ → ℤ = sum_of_rows factors others in
-    ap (λ (row : ℕ → ℤ). minor_at (set rows k row) columns) (fun_ext (λ c. ap (λ (n : ℤ). x *ℤ r c +ℤ n) (sym (one_mul (rest c)))))
+    ap (λ (row : ℕ → ℤ). minor_at (set rows k row) columns) (fun_ext (λ c. ap (λ (n : ℤ). x *ℤ r c +ℤ n) (sym (one-mul (rest c)))))
     ∙ minor_at_linear rows k x (pos 1) r rest columns h
-    ∙ ap (λ (n : ℤ). x *ℤ minor_at (set rows k r) columns +ℤ n) (one_mul (minor_at (set rows k rest) columns) ∙ minor_at_sum rows k columns h factors others)
+    ∙ ap (λ (n : ℤ). x *ℤ minor_at (set rows k r) columns +ℤ n) (one-mul (minor_at (set rows k rest) columns) ∙ minor_at_sum rows k columns h factors others)
 
 -- ---- 0 where two rows are equal
 
@@ -90,7 +90,7 @@ dot_zero : (g : (ℕ → ℤ) → ℤ) (factors : List ℤ) (rows : List (ℕ �
 dot_zero g [] rows h = refl
 dot_zero g (x ∷ factors) [] h = refl
 dot_zero g (x ∷ factors) (r ∷ rows) h =
-    only_second (x *ℤ g r) (dot factors (map g rows)) (ap (λ (n : ℤ). x *ℤ n) (h 0 (omega arith)) ∙ mul_zero x) ∙ dot_zero g factors rows (λ i l. h (suc i) (omega arith))
+    only_second (x *ℤ g r) (dot factors (map g rows)) (ap (λ (n : ℤ). x *ℤ n) (h 0 (omega arith)) ∙ mul-zero x) ∙ dot_zero g factors rows (λ i l. h (suc i) (omega arith))
   where
     only_second : (p q : ℤ) → p ≡ pos 0 → p +ℤ q ≡ q
     only_second p q e = omega (arith, sums)
@@ -100,7 +100,7 @@ dot_single : (g : (ℕ → ℤ) → ℤ) (v : ℤ) (factors : List ℤ) (rows : 
     → ((i : ℕ) → i < length rows → i ≢ k → g (get_or rows i nothing) ≡ pos 0)
     → g (get_or rows k nothing) ≡ v
     → dot factors (map g rows) ≡ get_or factors k (pos 0) *ℤ v
-dot_single g v [] rows k h z e = sym (zero_mul v)
+dot_single g v [] rows k h z e = sym (zero-mul v)
 dot_single g v (x ∷ factors) [] k h z e = absurd (omega arith)
 dot_single g v (x ∷ factors) (r ∷ rows) zero h z e =
     first (x *ℤ g r) (dot factors (map g rows)) (dot_zero g factors rows (λ i l. z (suc i) (omega arith) (omega arith))) ∙ ap (λ (n : ℤ). x *ℤ n) e
@@ -108,7 +108,7 @@ dot_single g v (x ∷ factors) (r ∷ rows) zero h z e =
     first : (p q : ℤ) → q ≡ pos 0 → p +ℤ q ≡ p
     first p q e = omega (arith, sums)
 dot_single g v (x ∷ factors) (r ∷ rows) (suc k) h z e =
-    second (x *ℤ g r) (dot factors (map g rows)) (ap (λ (n : ℤ). x *ℤ n) (z 0 (omega arith) (omega arith)) ∙ mul_zero x)
+    second (x *ℤ g r) (dot factors (map g rows)) (ap (λ (n : ℤ). x *ℤ n) (z 0 (omega arith) (omega arith)) ∙ mul-zero x)
     ∙ dot_single g v factors rows k (omega arith) (λ i l ne. z (suc i) (omega arith) (omega arith)) e
   where
     second : (p q : ℤ) → p ≡ pos 0 → p +ℤ q ≡ q
@@ -159,7 +159,7 @@ expansion_row_zero a rest (c ∷ columns) all =
     none (a c) (rest columns) (expansion a (λ others. rest (c ∷ others)) columns) all.0 (expansion_row_zero a (λ others. rest (c ∷ others)) columns all.1)
   where
     none : (p q r : ℤ) → p ≡ pos 0 → r ≡ pos 0 → p *ℤ q -ℤ r ≡ pos 0
-    none p q r h k = ap (λ (n : ℤ). n *ℤ q -ℤ r) h ∙ omega (arith, sums, zero_mul q)
+    none p q r h k = ap (λ (n : ℤ). n *ℤ q -ℤ r) h ∙ omega (arith, sums, zero-mul q)
 
 pub minor_at_identity : (rows : List (ℕ → ℤ)) (s : ℕ)
     → ((i : ℕ) → i < length rows → get_or rows i nothing (s + i) ≡ pos 1)
@@ -180,4 +180,4 @@ minor_at_identity (r ∷ rows) s one zeros =
     first rec (expansion_row_zero r (λ others. minor_at rows (s ∷ others)) (range_with_len (s + 1) (length rows)) left)
   where
     product : (p q n : ℤ) → p ≡ pos 1 → q ≡ pos 1 → n ≡ pos 0 → p *ℤ q -ℤ n ≡ pos 1
-    product p q n h k l = ap (λ (x : ℤ). x *ℤ q -ℤ n) h ∙ omega (arith, sums, one_mul q)
+    product p q n h k l = ap (λ (x : ℤ). x *ℤ q -ℤ n) h ∙ omega (arith, sums, one-mul q)

@@ -1,12 +1,7 @@
 -- Rows that are, up to a scale, combinations of the rows of a square, and what an exchange of one row of the square makes of their factors: the exact division of fraction-free pivots (Edmonds 1967, Bareiss 1968).
 use Rattle.std.specs.Prelude.{ℕ, ◌<◌, ◌≡◌, ◌≢◌, ℤ, pos, ◌+ℤ◌, ◌-ℤ◌, ◌*ℤ◌, unsigned_abs, List, [], ◌∷◌, length, map}
-use Rattle.minors.specs.Minor.{entry, minor}
-
--- the sum of the products of two rows' numbers
-abbrev pub dot : List ℤ → List ℤ → ℤ
-dot [] ys = pos 0
-dot (x ∷ xs) [] = pos 0
-dot (x ∷ xs) (y ∷ ys) = x *ℤ y +ℤ dot xs ys
+use Rattle.row_laws.specs.Rows.{entry, dot}
+use Rattle.minors.specs.Minor.{minor}
 
 -- the numbers of the rows at a column
 abbrev pub column_of : List (List ℤ) → ℕ → List ℤ

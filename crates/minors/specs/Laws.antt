@@ -1,7 +1,8 @@
 -- The laws of minors, each over squares of any order.
 use Rattle.std.specs.Prelude.{ℕ, ◌*◌, ◌^◌, ◌<◌, ◌≤◌, ◌≡◌, ◌≢◌, ℤ, pos, neg_ℤ, ◌+ℤ◌, ◌-ℤ◌, ◌*ℤ◌, unsigned_abs, List, [], length, map, slice_set, slice_index_or, All}
-use Rattle.minors.specs.Minor.{entry, minor, factorial, IsUnit, HasSmallEntries}
-use Rattle.minors.specs.Combination.{dot, IsCombination, IsScale, ExchangesFactors, IsLeaving}
+use Rattle.minors.specs.Minor.{minor, factorial, IsUnit, HasSmallEntries}
+use Rattle.row_laws.specs.Rows.{dot, entry}
+use Rattle.minors.specs.Combination.{IsCombination, IsScale, ExchangesFactors, IsLeaving}
 
 -- a minor is linear in each row: where a row is x times one row plus y times another, so are the minors
 abbrev pub LinearInEachRow : Type 0

@@ -1,10 +1,7 @@
 -- Minors: determinants of squares of whole numbers that are given as lists of rows, by Laplace's expansion along the first row.
 use Rattle.std.specs.Prelude.{ℕ, zero, suc, ◌+◌, ◌*◌, ◌<◌, ◌≤◌, ◌≡◌, ◌≢◌, ℤ, pos, ◌-ℤ◌, ◌*ℤ◌, unsigned_abs, List, [], ◌∷◌, length, map, slice_index_or}
 use Rattle.std.specs.List.{range_with_len}
-
--- the number of a row at a column, counted from 0; a place that the row lacks counts as 0
-abbrev pub entry : List ℤ → ℕ → ℤ
-entry row column = slice_index_or row column (pos 0)
+use Rattle.row_laws.specs.Rows.{entry}
 
 -- the sum over the columns, with signs that alternate from plus on, of the row's number there times `rest` of the other columns
 unfoldable pub expansion : (ℕ → ℤ) → (List ℕ → ℤ) → List ℕ → ℤ

@@ -6,8 +6,8 @@ use Rattle.std.proofs.lemmas.Int.{ints}
 use Rattle.std.proofs.lemmas.Bool.{cond-true, cond-false, cases_Bool, ltb-true, ltb-false, lt-ltb, le-ltb, eqb-true, eqb-false, eq-eqb, true≢false, false≢true, false_from_ne_true, true_from_ne_false, not_from_false, not_from_true}
 use Rattle.std.proofs.lemmas.List.{length-map, get_or_append_left, get_or-append_right, get_or-map, get_or-set_same, get_or-set_other}
 use Rattle.std.specs.Cmp.Derive.{both_true}
-use Rattle.minors.proofs.Ring.{sums, mul_zero, zero_mul}
-use Rattle.row_laws.specs.Rows.{dot}
+use Rattle.row_laws.proofs.Integers.{sums, mul-zero, zero-mul}
+use Rattle.row_laws.specs.Rows.{dot, entry}
 use Rattle.least_index.specs.Dictionary.{RationalDictionary, sum_below, term, right_side}
 use Rattle.least_index.specs.Dictionary as rational
 use Rattle.least_index.specs.Rule.{first, is_infeasible, helps, leaving, entering, is_end, next, pivots_left, Covers}
@@ -17,7 +17,7 @@ use Rattle.least_index.proofs.Exchange.{exchange_reflects}
 use Rattle.least_index.proofs.Choice.{and_left, and_right, negative, positive, not_negative, not_positive, choice_is_exchange, next_scale}
 use Rattle.least_index.proofs.Ends.{fall}
 use Rattle.fraction_free.specs.Dictionary.{DictionaryView, line_of, column_variables, IsDictionary, Satisfies, constant_in, entry_in}
-use Rattle.fraction_free.specs.Changes.{number_at, IsPivoted}
+use Rattle.fraction_free.specs.Changes.{IsPivoted}
 use Rattle.simplex.specs.Choice.{IsLeavingRow, IsEnteringColumn}
 use Rattle.simplex.proofs.Positions.{AreDistinct, place_in, place-of, place-found, place-none, placed, sum-placed, dot-sum}
 use Rattle.simplex.proofs.Variables.{HasVariables, variables_of}
@@ -72,7 +72,7 @@ no_or : (b c : Bool) (e x : ℤ) → (c ≡ true → b ≡ false) → cond b (po
 no_or true true e x h = absurd (true≢false (h refl))
 no_or true false e x h = refl
 no_or false true e x h = refl
-no_or false false e x h = zero_mul x
+no_or false false e x h = zero-mul x
 
 -- the sum of a row's entries times the nonbasic variables, over all variables
 row_terms : (d : DictionaryView) → HasVariables d → (x : ℕ → ℤ) (v i : ℕ) → row_place d v ≡ i

@@ -8,11 +8,11 @@ use Rattle.std.proofs.lemmas.Bool.{eqb-true}
 use Rattle.std.proofs.lemmas.List.{get_or-replicate, length-replicate}
 use Rattle.std.proofs.lemmas.List.FromFn.{get_or-map-range_with_len, length-map-range_with_len}
 use Rattle.std.proofs.lemmas.List.Elements.{All-from_get_or}
-use Rattle.minors.proofs.Ring.{sums, mul-add, mul-neg, mul_zero, zero_mul, one_mul}
+use Rattle.row_laws.proofs.Integers.{sums, mul-add, mul-neg, mul-zero, zero-mul, one-mul}
 use Rattle.row_laws.specs.Rows.{dot}
 use Rattle.least_index.specs.Dictionary.{sum_below}
 use Rattle.least_index.proofs.Sums.{sum-ext, at_place, sum-at_place}
-use Rattle.least_index.proofs.Signs.{mul_nonneg, nonneg_of_pos}
+use Rattle.row_laws.proofs.Signs.{mul_nonneg, nonneg_of_pos}
 use Rattle.fraction_free.specs.declared.loaded.LoadedRow.{LoadedRow}
 use Rattle.fraction_free.specs.Dictionary.{DictionaryView, IsDictionary, loaded_at, constant_in}
 use Rattle.simplex.specs.declared.row_weights.RowWeight.{RowWeight}
@@ -51,7 +51,7 @@ weighted_nonneg f (x ∷ rows) are h =
     (weighted_nonneg f rows (λ k y lt. are (suc k) y (omega arith)) (λ k y lt. h (suc k) y (omega arith)))
 
 mul_one : (a : ℤ) → a *ℤ pos 1 ≡ a
-mul_one a = *ℤ_comm a (pos 1) ∙ one_mul a
+mul_one a = *ℤ_comm a (pos 1) ∙ one-mul a
 
 -- a clash's facts
 pub record HasWeights (d : DictionaryView) (row : ℕ) (increments : List ℤ) (rows : List RowWeight) : Type 0 where
@@ -115,11 +115,11 @@ unit_len columns j = length-map-range_with_len (λ k. cond (k == j) (pos 1) (pos
 
 times_unit : (b : Bool) (a at : ℤ) → (b ≡ true → a ≡ at) → a *ℤ (cond b (pos 1) (pos 0) -ℤ pos 0) ≡ cond b at (pos 0)
 times_unit true a at h = mul_one a ∙ h refl
-times_unit false a at h = mul_zero a
+times_unit false a at h = mul-zero a
 
 times_plain_unit : (b : Bool) (a at : ℤ) → (b ≡ true → a ≡ at) → a *ℤ cond b (pos 1) (pos 0) ≡ cond b at (pos 0)
 times_plain_unit true a at h = mul_one a ∙ h refl
-times_plain_unit false a at h = mul_zero a
+times_plain_unit false a at h = mul-zero a
 
 dot_unit : (columns j : ℕ) (xs : List ℤ) → length xs ≡ columns → j < columns → dot xs (unit_vector columns j) ≡ get_or xs j (pos 0)
 dot_unit columns j xs len lt =
@@ -142,14 +142,14 @@ column_sum d row increments rows has column lt =
     (sym (weighted_same (λ r. dot (loaded_at d.loaded (r - 1)).coefficients (unit_vector d.columns column) -ℤ (loaded_at d.loaded (r - 1)).least *ℤ pos 0) (coefficient d.loaded column) rows
     (λ k x l. at_row ((slice_index_or rows k x).row) (has.weights.each k x l).numbered (has.loaded_rows k x l))))
     ∙ weights_at_vector d has.dictionary row increments rows (unit_vector d.columns column) (pos 0) has.within (unit_len d.columns column) has.own has.slacks has.weights.each
-    ∙ mul_zero (constant_in d row)
+    ∙ mul-zero (constant_in d row)
   where
     minus_zero : (a b : ℤ) → b ≡ pos 0 → a -ℤ b ≡ a
     minus_zero a b e = omega (arith, sums)
 
     at_row : (r : ℕ) → 1 ≤ r → r ≤ length d.loaded → dot (loaded_at d.loaded (r - 1)).coefficients (unit_vector d.columns column) -ℤ (loaded_at d.loaded (r - 1)).least *ℤ pos 0 ≡ coefficient d.loaded column r
     at_row r low high =
-        minus_zero (dot (loaded_at d.loaded (r - 1)).coefficients (unit_vector d.columns column)) ((loaded_at d.loaded (r - 1)).least *ℤ pos 0) (mul_zero (loaded_at d.loaded (r - 1)).least)
+        minus_zero (dot (loaded_at d.loaded (r - 1)).coefficients (unit_vector d.columns column)) ((loaded_at d.loaded (r - 1)).least *ℤ pos 0) (mul-zero (loaded_at d.loaded (r - 1)).least)
         ∙ dot_unit d.columns column (loaded_at d.loaded (r - 1)).coefficients (has.dictionary.rows (r - 1) (omega arith)).len lt
 
 -- ---- a strict weight
@@ -157,7 +157,7 @@ column_sum d row increments rows has column lt =
 dot_zeros : (n : ℕ) (xs : List ℤ) → dot xs (replicate n (pos 0)) ≡ pos 0
 dot_zeros n [] = refl
 dot_zeros zero (x ∷ xs) = refl
-dot_zeros (suc n) (x ∷ xs) = ap (λ (s : ℤ). x *ℤ pos 0 +ℤ s) (dot_zeros n xs) ∙ ap (λ (m : ℤ). m +ℤ pos 0) (mul_zero x)
+dot_zeros (suc n) (x ∷ xs) = ap (λ (s : ℤ). x *ℤ pos 0 +ℤ s) (dot_zeros n xs) ∙ ap (λ (m : ℤ). m +ℤ pos 0) (mul-zero x)
 
 any_default : (xs : List ℤ) (k : ℕ) (d e : ℤ) → k < length xs → get_or xs k d ≡ get_or xs k e
 any_default [] k d e lt = absurd (omega arith)
@@ -182,7 +182,7 @@ any_row loaded (x ∷ rows) leasts h =
     from (any_row loaded rows (λ k y lt. leasts (suc k) y (omega arith))) (leasts 0 x (omega arith))
   where
     rest : (w l s : ℤ) → l ≡ pos 0 → pos 0 <ℤ (w *ℤ l +ℤ s) → pos 0 <ℤ s
-    rest w l s e h = plus (w *ℤ l) s (ap (λ (n : ℤ). w *ℤ n) e ∙ mul_zero w) h
+    rest w l s e h = plus (w *ℤ l) s (ap (λ (n : ℤ). w *ℤ n) e ∙ mul-zero w) h
       where
         plus : (a s : ℤ) → a ≡ pos 0 → pos 0 <ℤ (a +ℤ s) → pos 0 <ℤ s
         plus a s e h = omega (arith, ints)

@@ -8,11 +8,11 @@ use Rattle.std.proofs.lemmas.Bool.{cond-true, cond-false, cases_Bool, ltb-true, 
 use Rattle.std.proofs.lemmas.List.{ext_get_or, get_or-map, get_or-replicate, length-map, length-replicate}
 use Rattle.std.proofs.lemmas.List.FromFn.{get_or-map-range_with_len, length-map-range_with_len}
 use Rattle.std.proofs.lemmas.List.Elements.{All-from_get_or}
-use Rattle.minors.proofs.Ring.{sums, mul-add, mul-sub, sub-mul, add-mul, neg-mul, mul-neg, mul_assoc, mul_zero, zero_mul, one_mul}
+use Rattle.row_laws.proofs.Integers.{sums, mul-add, mul-sub, sub-mul, add-mul, neg-mul, mul-neg, mul_assoc, mul-zero, zero-mul, one-mul}
 use Rattle.row_laws.specs.Rows.{dot}
 use Rattle.least_index.specs.Dictionary.{sum_below}
 use Rattle.least_index.proofs.Sums.{sum-ext, sum-zero, at_place, sum-at_place}
-use Rattle.least_index.proofs.Signs.{mul_nonneg}
+use Rattle.row_laws.proofs.Signs.{mul_nonneg}
 use Rattle.fraction_free.specs.declared.loaded.LoadedRow.{LoadedRow}
 use Rattle.fraction_free.specs.Dictionary.{DictionaryView, IsDictionary, Satisfies, HasSlacks, vector_of, slack_of, loaded_at, constant_in, entry_in}
 use Rattle.simplex.specs.declared.row_weights.RowWeight.{RowWeight}
@@ -89,7 +89,7 @@ equation_in_variables d is x row lt sat =
   where
     pointwise : (b : Bool) (w a c : ℤ) → (b ≡ true → a ≡ c) → cond b w (pos 0) *ℤ a ≡ cond b (w *ℤ c) (pos 0)
     pointwise true w a c h = ap (λ (n : ℤ). w *ℤ n) (h refl)
-    pointwise false w a c h = zero_mul a
+    pointwise false w a c h = zero-mul a
 
 -- over the increments, and over the weighted rows
 pub equation_of_weights : (d : DictionaryView) → IsDictionary d → (x : ℕ → ℤ) (row : ℕ) (increments : List ℤ) (rows : List RowWeight) → row < length d.loaded → Satisfies d x
@@ -132,7 +132,7 @@ equation_of_weights d is x row increments rows lt sat own slacks =
         ∙ ap (sum_below low_term) one_more
         ∙ sum-front low_term d.columns
         ∙ zero_first (low_term 0) (sum_below (λ i. low_term (suc i)) d.columns)
-        (cond-false (nat_lt d.columns 0) (pos 0) (weight_of d row 0 *ℤ x 0) (le-ltb d.columns 0 (omega arith)) ∙ ap (λ (n : ℤ). n *ℤ x 0) none_zero ∙ zero_mul (x 0))
+        (cond-false (nat_lt d.columns 0) (pos 0) (weight_of d row 0 *ℤ x 0) (le-ltb d.columns 0 (omega arith)) ∙ ap (λ (n : ℤ). n *ℤ x 0) none_zero ∙ zero-mul (x 0))
         ∙ sum-ext (λ i. low_term (suc i)) (λ k. get_or increments k (pos 0) *ℤ x (k + 1)) d.columns
         (λ i l. let place : suc i ≡ i + 1 = omega arith in
         cond-false (nat_lt d.columns (suc i)) (pos 0) (weight_of d row (suc i) *ℤ x (suc i)) (le-ltb d.columns (suc i) (omega arith))

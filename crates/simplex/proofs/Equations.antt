@@ -3,7 +3,7 @@ use Rattle.std.proofs.Common.{◌≡◌, ◌≢◌, ℕ, zero, suc, ◌+◌, ◌
 use Rattle.std.specs.Prelude.{slice_index, slice_set, nat_lt, ◌==◌}
 use Rattle.std.proofs.lemmas.Int.{ints}
 use Rattle.std.proofs.lemmas.List.{get_or-take}
-use Rattle.minors.proofs.Ring.{abs-neg}
+use Rattle.row_laws.proofs.Integers.{unsigned_abs-neg}
 use Rattle.std.proofs.lemmas.Bool.{cond-true, cond-false, cases_Bool, eqb-true, eqb-false, eq-eqb, ltb-true, ltb-false, lt-ltb, false_from_ne_true}
 use Rattle.fraction_free.specs.Dictionary.{DictionaryView, IsDictionary, entry_in, constant_in}
 use Rattle.simplex.specs.Choice.{IsBlocked}
@@ -71,7 +71,7 @@ weight_small d is row place lt l = from (cases_Bool (place == 0))
     from (inr a) =
         let p : place ≢ 0 = eqb-false place 0 a in
         let s : unsigned_abs (entry_in d row (place - 1)) < 2 ^ 89 = entry_small d is row (place - 1) lt (omega arith) in
-        subst (λ (n : ℤ). unsigned_abs n < 2 ^ 96) (sym (later_weight d row place (omega arith))) (omega (arith, abs-neg (entry_in d row (place - 1))))
+        subst (λ (n : ℤ). unsigned_abs n < 2 ^ 96) (sym (later_weight d row place (omega arith))) (omega (arith, unsigned_abs-neg (entry_in d row (place - 1))))
 
 -- where no nonbasic variable helps, no weight is negative
 pub weight_nonneg : (d : DictionaryView) → IsDictionary d → (row place : ℕ) → IsBlocked d row → place < d.columns + 1 → pos 0 ≤ℤ weight_at d row place

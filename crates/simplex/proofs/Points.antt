@@ -8,12 +8,12 @@ use Rattle.std.proofs.lemmas.Bool.{cond-true, cond-false, cases_Bool, eqb-true, 
 use Rattle.std.proofs.lemmas.List.{ext_get_or, get_or-map, get_or-take, get_or-set_same, get_or-set_other, length-map, length-take-le}
 use Rattle.std.proofs.lemmas.List.FromFn.{get_or-map-range_with_len, length-map-range_with_len}
 use Rattle.std.proofs.lemmas.List.Elements.{All-from_get_or}
-use Rattle.minors.proofs.Ring.{sums, mul-add, mul_assoc, mul_swap, mul_zero, zero_mul, one_mul}
+use Rattle.row_laws.proofs.Integers.{sums, mul-add, mul_assoc, mul_left_comm, mul-zero, zero-mul, one-mul}
 use Rattle.criteria_model.specs.Lists.{IsVector}
 use Rattle.row_laws.specs.Rows.{dot, times}
 use Rattle.fraction_free.specs.declared.loaded.LoadedRow.{LoadedRow}
 use Rattle.fraction_free.specs.Dictionary.{DictionaryView, IsDictionary, Satisfies, HasSlacks, vector_of, slack_of, loaded_at, constant_in}
-use Rattle.least_index.proofs.Signs.{mul_neg}
+use Rattle.row_laws.proofs.Signs.{mul_neg}
 use Rattle.least_index.proofs.Choice.{basic_solution, basic_solution_satisfies}
 use Rattle.simplex.specs.Choice.{IsFeasible}
 use Rattle.simplex.specs.Point.{IsScaledPoint}
@@ -103,13 +103,13 @@ vector_is d vector is at =
         ap (λ (n : ℤ). n +ℤ d.scale) (nonbasic_value d (k + 1) f.0) ∙ zero_plus d.scale ∙ sym f.1
 
 dot_times : (k : ℤ) (xs ys : List ℤ) → dot xs (times k ys) ≡ k *ℤ dot xs ys
-dot_times k [] ys = sym (mul_zero k)
-dot_times k (x ∷ xs) [] = sym (mul_zero k)
+dot_times k [] ys = sym (mul-zero k)
+dot_times k (x ∷ xs) [] = sym (mul-zero k)
 dot_times k (x ∷ xs) (y ∷ ys) =
     ap (λ (s : ℤ). x *ℤ (k *ℤ y) +ℤ s) (dot_times k xs ys) ∙ step x y k (dot xs ys)
   where
     step : (x y k s : ℤ) → x *ℤ (k *ℤ y) +ℤ k *ℤ s ≡ k *ℤ (x *ℤ y +ℤ s)
-    step x y k s = omega (arith, sums, mul_swap x k y, mul-add k (x *ℤ y) s)
+    step x y k s = omega (arith, sums, mul_left_comm x k y, mul-add k (x *ℤ y) s)
 
 raised : (a : ℤ) → pos 1 ≤ℤ a → pos 0 <ℤ a
 raised a h = omega (arith, ints)
@@ -118,18 +118,18 @@ raised a h = omega (arith, ints)
 meets_step : (least scale factor n slack value : ℤ) → (least ≡ pos 0) ⊎ (least ≡ pos 1) → pos 1 ≤ℤ scale → pos 1 ≤ℤ factor → pos 0 ≤ℤ slack → slack ≡ value -ℤ least *ℤ scale → value ≡ factor *ℤ n → least ≤ℤ n
 meets_step least scale factor (pos n) slack value (inl l) ps pf h e m = omega (arith, ints)
 meets_step least scale factor (negsuc n) slack value (inl l) ps pf h e m =
-    absurd (below (negsuc n *ℤ factor) (least *ℤ scale) slack value (mul_neg (negsuc n) factor (omega (arith, ints)) (raised factor pf)) (ap (λ (k : ℤ). k *ℤ scale) l ∙ zero_mul scale) h e (m ∙ *ℤ_comm factor (negsuc n)))
+    absurd (below (negsuc n *ℤ factor) (least *ℤ scale) slack value (mul_neg (negsuc n) factor (omega (arith, ints)) (raised factor pf)) (ap (λ (k : ℤ). k *ℤ scale) l ∙ zero-mul scale) h e (m ∙ *ℤ_comm factor (negsuc n)))
   where
     below : (p l slack value : ℤ) → p <ℤ pos 0 → l ≡ pos 0 → pos 0 ≤ℤ slack → slack ≡ value -ℤ l → value ≡ p → ⊥
     below p l slack value hp hl h e m = omega (arith, ints)
 meets_step least scale factor (pos (suc n)) slack value (inr l) ps pf h e m = omega (arith, ints)
 meets_step least scale factor (pos zero) slack value (inr l) ps pf h e m =
-    absurd (below (least *ℤ scale) slack value (ap (λ (k : ℤ). k *ℤ scale) l ∙ one_mul scale) h e (m ∙ mul_zero factor))
+    absurd (below (least *ℤ scale) slack value (ap (λ (k : ℤ). k *ℤ scale) l ∙ one-mul scale) h e (m ∙ mul-zero factor))
   where
     below : (l slack value : ℤ) → l ≡ scale → pos 0 ≤ℤ slack → slack ≡ value -ℤ l → value ≡ pos 0 → ⊥
     below l slack value hl h e m = omega (arith, ints)
 meets_step least scale factor (negsuc n) slack value (inr l) ps pf h e m =
-    absurd (below (negsuc n *ℤ factor) (least *ℤ scale) slack value (mul_neg (negsuc n) factor (omega (arith, ints)) (raised factor pf)) (ap (λ (k : ℤ). k *ℤ scale) l ∙ one_mul scale) h e (m ∙ *ℤ_comm factor (negsuc n)))
+    absurd (below (negsuc n *ℤ factor) (least *ℤ scale) slack value (mul_neg (negsuc n) factor (omega (arith, ints)) (raised factor pf)) (ap (λ (k : ℤ). k *ℤ scale) l ∙ one-mul scale) h e (m ∙ *ℤ_comm factor (negsuc n)))
   where
     below : (p l slack value : ℤ) → p <ℤ pos 0 → l ≡ scale → pos 0 ≤ℤ slack → slack ≡ value -ℤ l → value ≡ p → ⊥
     below p l slack value hp hl h e m = omega (arith, ints)

@@ -6,7 +6,8 @@ use Rattle.std.proofs.lemmas.Bool.{cases_Bool, eqb-true, eqb-false}
 use Rattle.std.proofs.lemmas.List.{ext_get_or, get_or-map, get_or-replicate, get_or-drop, get_or_append_left, get_or-append_right, length-append, length-map, length-set, length-drop, length-replicate, length-take-le, take_more_set, drop-set-lt}
 use Rattle.std.proofs.lemmas.List.Elements.{All-append, All-from_get_or, All-get_or}
 use Rattle.simplex.specs.declared.row_weights.RowWeight.{RowWeight}
-use Rattle.simplex.specs.Weights.{IsRowWeight, AreRowWeights, IsPadded, no_weight, length-padded}
+use Rattle.simplex.specs.Weights.{IsRowWeight, AreRowWeights, no_weight}
+use Rattle.row_laws.specs.Padded.{IsPadded, length-padded}
 
 pub one_item : (P : RowWeight → Type 0) (x : RowWeight) → P x → All P (x ∷ [])
 one_item P x h = All-from_get_or P (x ∷ []) x (λ i lt. at i lt)
@@ -52,7 +53,7 @@ rows_more xs x are room is below = record {
         let old : slice_index (map (λ item. item.row) xs) k < slice_index (map (λ item. item.row) xs) (k + 1) = are.ascending k (omega (arith, length-map xs (λ (item : RowWeight). item.row))) in
         omega (arith, old_at k lt, old_at (k + 1) l, get_or-map (λ item. item.row) xs k no_weight 0 lt, get_or-map (λ item. item.row) xs (k + 1) no_weight 0 l, old)
 
-padded_more : (n : ℕ) (cells : List RowWeight) (x : RowWeight) → n < 25 → IsPadded n cells → IsPadded (n + 1) (slice_set cells n x)
+padded_more : (n : ℕ) (cells : List RowWeight) (x : RowWeight) → n < 25 → IsPadded 25 no_weight n cells → IsPadded 25 no_weight (n + 1) (slice_set cells n x)
 padded_more n cells x lt p = record {
   most = omega arith;
   cells_len = length-set cells n x ∙ p.cells_len;
@@ -68,13 +69,13 @@ padded_more n cells x lt p = record {
       ∙ sym (get_or-replicate (25 - (n + 1)) i no_weight no_weight short));
 }
 
-pub pushed : (n at : ℕ) (cells now : List RowWeight) (x y : RowWeight) → at ≡ n → y ≡ x → IsPadded n cells × AreRowWeights (take n cells) → take n cells ≡ now → length now < 25 → IsRowWeight x → All (λ item. item.row < x.row) now
-    → IsPadded (n + 1) (slice_set cells at y) × AreRowWeights (take (n + 1) (slice_set cells at y))
+pub pushed : (n at : ℕ) (cells now : List RowWeight) (x y : RowWeight) → at ≡ n → y ≡ x → IsPadded 25 no_weight n cells × AreRowWeights (take n cells) → take n cells ≡ now → length now < 25 → IsRowWeight x → All (λ item. item.row < x.row) now
+    → IsPadded 25 no_weight (n + 1) (slice_set cells at y) × AreRowWeights (take (n + 1) (slice_set cells at y))
 pushed n at cells now x y e f inv view room is below =
-    let len : length (take n cells) ≡ n = length-padded n cells inv.0 in
+    let len : length (take n cells) ≡ n = length-padded 25 no_weight n cells inv.0 in
     let short : n < 25 = omega (arith, len, ap length view) in
     let place : slice_set cells n x ≡ slice_set cells at y = ap (λ (i : ℕ). slice_set cells i x) (sym e) ∙ ap (slice_set cells at) (sym f) in (
-      subst (IsPadded (n + 1)) place (padded_more n cells x short inv.0),
+      subst (IsPadded 25 no_weight (n + 1)) place (padded_more n cells x short inv.0),
       subst (λ (l : List RowWeight). AreRowWeights (take (n + 1) l)) place
           (subst AreRowWeights (sym (take_more_set cells n x (omega (arith, inv.0.cells_len))))
           (rows_more (take n cells) x inv.1 (omega (arith, len)) is (subst (λ (l : List RowWeight). All (λ item. item.row < x.row) l) (sym view) below))),

@@ -11,10 +11,10 @@ use Rattle.std.proofs.lemmas.Int.{ints, unsigned_abs-mul}
 use Rattle.std.proofs.lemmas.List.{ext_get_or, get_or-map, get_or-take, get_or-set_same, get_or-set_other, length-map, length-take-le}
 use Rattle.std.proofs.lemmas.List.Elements.{All-from_get_or}
 use borrow.Author.Differences.{product_is}
-use Rattle.minors.proofs.Ring.{mul-neg}
+use Rattle.row_laws.proofs.Integers.{mul-neg}
 use Rattle.criteria_model.specs.Lists.{IsVector}
 use Rattle.row_laws.specs.Rows.{times}
-use Rattle.least_index.proofs.Signs.{mul_nonpos, mul_nonneg, nonneg_of_pos}
+use Rattle.row_laws.proofs.Signs.{mul_nonpos, mul_nonneg, nonneg_of_pos}
 use Rattle.simplex.specs.Rows.{IsCoprime}
 use Rattle.simplex.proofs.Sizes.{kept, fits}
 

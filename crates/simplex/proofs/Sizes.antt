@@ -4,7 +4,7 @@ use mir.Syntax.{w128}
 use Rattle.std.specs.Prelude.{slice_index_or}
 use Rattle.std.proofs.lemmas.Int.{ints, fits_signed_from_abs, to_z-of_z}
 use Rattle.minors.proofs.Laws.{bound_is_small}
-use Rattle.minors.proofs.Ring.{abs-add, abs-neg, sums}
+use Rattle.row_laws.proofs.Integers.{unsigned_abs-add, unsigned_abs-neg, sums}
 use Rattle.fraction_free.specs.Dictionary.{DictionaryView, IsDictionary, constant_in, entry_in}
 
 -- a number below 2^126 in size is kept by a cast
@@ -26,15 +26,15 @@ negated_zero x = omega (arith, sums)
 pub negated_is : (x : ℤ) → unsigned_abs x < 2 ^ 89 → to_z w128 (of_z w128 (pos 0 -ℤ to_z w128 (of_z w128 x))) ≡ neg_ℤ x
 negated_is x h =
     let inner : pos 0 -ℤ to_z w128 (of_z w128 x) ≡ neg_ℤ x = ap (λ (n : ℤ). pos 0 -ℤ n) (kept x (omega arith)) ∙ negated_zero x in
-    ap (λ (n : ℤ). to_z w128 (of_z w128 n)) inner ∙ kept (neg_ℤ x) (omega (arith, abs-neg x))
+    ap (λ (n : ℤ). to_z w128 (of_z w128 n)) inner ∙ kept (neg_ℤ x) (omega (arith, unsigned_abs-neg x))
 
 pub negated_fits : (x : ℤ) → unsigned_abs x < 2 ^ 89 → FitsSigned w128 (pos 0 -ℤ to_z w128 (of_z w128 x))
 negated_fits x h =
     let inner : pos 0 -ℤ to_z w128 (of_z w128 x) ≡ neg_ℤ x = ap (λ (n : ℤ). pos 0 -ℤ n) (kept x (omega arith)) ∙ negated_zero x in
-    subst (λ (n : ℤ). FitsSigned w128 n) (sym inner) (fits (neg_ℤ x) (omega (arith, abs-neg x)))
+    subst (λ (n : ℤ). FitsSigned w128 n) (sym inner) (fits (neg_ℤ x) (omega (arith, unsigned_abs-neg x)))
 
 pub sum_small : (x y : ℤ) → unsigned_abs x < 2 ^ 89 → unsigned_abs y < 2 ^ 89 → unsigned_abs (x +ℤ y) < 2 ^ 96
-sum_small x y h k = omega (arith, abs-add x y)
+sum_small x y h k = omega (arith, unsigned_abs-add x y)
 
 pub sum_fits : (x y : ℤ) → unsigned_abs x < 2 ^ 89 → unsigned_abs y < 2 ^ 89 → FitsSigned w128 (to_z w128 (of_z w128 x) +ℤ to_z w128 (of_z w128 y))
 sum_fits x y h k =

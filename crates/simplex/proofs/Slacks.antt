@@ -6,7 +6,7 @@ use Rattle.std.proofs.lemmas.Bool.{cond-true, cond-false, cases_Bool, ltb-true, 
 use Rattle.std.proofs.lemmas.List.{length-append}
 use Rattle.std.proofs.lemmas.List.Elements.{All-append, All-from_get_or, All-get_or}
 use Rattle.std.specs.Cmp.Derive.{both_true}
-use Rattle.minors.proofs.Ring.{sums, mul_zero, zero_mul}
+use Rattle.row_laws.proofs.Integers.{sums, mul-zero, zero-mul}
 use Rattle.least_index.specs.Dictionary.{sum_below}
 use Rattle.least_index.proofs.Sums.{sum-suc, sum-zero}
 use Rattle.least_index.proofs.Choice.{and_left, and_right, positive, not_positive}
@@ -130,7 +130,7 @@ zero_weight d is row u lt blocked none = from (has_place d row u)
     from (inr n) = weight_of-none d row u n
 
 zero_term : (d : DictionaryView) (row u : ℕ) (of : ℕ → ℤ) → weight_of d row u ≡ pos 0 → slack_term d row of u ≡ pos 0
-zero_term d row u of e = step (nat_lt d.columns u) (weight_of d row u *ℤ of (u - d.columns)) (ap (λ (n : ℤ). n *ℤ of (u - d.columns)) e ∙ zero_mul (of (u - d.columns)))
+zero_term d row u of e = step (nat_lt d.columns u) (weight_of d row u *ℤ of (u - d.columns)) (ap (λ (n : ℤ). n *ℤ of (u - d.columns)) e ∙ zero-mul (of (u - d.columns)))
   where
     step : (b : Bool) (a : ℤ) → a ≡ pos 0 → cond b a (pos 0) ≡ pos 0
     step true a e = e

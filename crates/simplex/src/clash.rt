@@ -9,7 +9,7 @@ ghost use Rattle.simplex.specs.Results.{IsClash};
 
 use crate::found::Clash;
 use crate::row_weights::RowWeights;
-use criteria_model::Vector;
+use criteria_model::{CERTIFICATE_BOUND, MAX_INCREMENTS, Vector};
 use fraction_free::Dictionary;
 
 /// The weights of a row's equation: the scale on its basic variable, and on the nonbasic ones their
@@ -38,7 +38,7 @@ fn weighted_variable(work: &Dictionary, row: u32, place: u8) -> (u32, i128)
     ensures weight { result.1 ≡ weight_at work.now (row - 1) place }
     ensures variable_low { 1 ≤ result.0 }
     ensures variable_high { result.0 ≤ work.now.columns + length work.now.loaded }
-    ensures size { unsigned_abs result.1 < 2 ^ 96 }
+    ensures size { unsigned_abs result.1 < CERTIFICATE_BOUND }
 {
     let scale = work.scale();
     if place == 0 {
@@ -58,7 +58,7 @@ fn increment_weights(work: &Dictionary, row: u32) -> Vector
     ensures few { count_by is_weight result ≤ how_many (λ place. not (has_slack work.now (row - 1) place)) (work.now.columns + 1) }
 {
     let columns = usize::from(work.cols());
-    let mut cells = [0; 24];
+    let mut cells = [0; MAX_INCREMENTS];
     for place in 0..work.cols() + 1 {
         let (variable, weight) = weighted_variable(work, row, place);
         let number = variable as usize;

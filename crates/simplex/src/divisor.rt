@@ -4,7 +4,7 @@ ghost use Rattle.std.specs.Int.{◌∣◌};
 ghost use Rattle.criteria_model.specs.Lists.{IsVector};
 ghost use Rattle.row_laws.specs.Rows.{times};
 
-use criteria_model::Vector;
+use criteria_model::{MAX_INCREMENTS, Vector};
 use wide_step::gcd;
 
 /// The greatest common divisor of the values; 0 where each is 0.
@@ -30,7 +30,7 @@ pub fn divided(values: &[i128], divisor: i128) -> Vector
     requires divides { All (λ x. unsigned_abs divisor ∣ unsigned_abs x) values.now }
     ensures { values.now ≡ times divisor result }
 {
-    let mut cells = [0; 24];
+    let mut cells = [0; MAX_INCREMENTS];
     for place in 0..values.len() {
         cells[place] = values[place] / divisor;
     }

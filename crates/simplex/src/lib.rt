@@ -22,5 +22,5 @@ mod tests;
 pub use divisor::{common_divisor, divided};
 pub use found::{Clash, Found};
 pub use point::reduced;
-pub use row_weights::{RowWeight, RowWeights};
+pub use row_weights::{MAX_ROW_WEIGHTS, RowWeight, RowWeights};
 pub use solver::solve;

@@ -8,7 +8,7 @@ ghost use Rattle.simplex.specs.Choice.{IsFeasible};
 ghost use Rattle.simplex.specs.Point.{IsScaledPoint, IsPointOf};
 
 use crate::divisor::{common_divisor, divided};
-use criteria_model::Vector;
+use criteria_model::{MAX_INCREMENTS, Vector};
 use fraction_free::Dictionary;
 
 /// The vector where the nonbasic variables are 0, without its common divisor.
@@ -29,7 +29,7 @@ fn scaled_point(work: &Dictionary) -> Vector
     ensures dictionary { IsDictionary work.now }
 {
     let columns = usize::from(work.cols());
-    let mut cells = [work.scale(); 24];
+    let mut cells = [work.scale(); MAX_INCREMENTS];
     for at in 0..work.rows() {
         let row = at + 1;
         let variable = work.basic(row) as usize;

@@ -2,7 +2,11 @@
 ghost use Rattle.std.specs.Prelude.{◌≡◌, ◌-◌, ◌^◌, ◌<◌, ◌≤◌, List, [], ◌∷◌, ◌++◌, length, All, slice_index_or, pos, ◌<ℤ◌, unsigned_abs};
 ghost use Rattle.simplex.specs.Weights.{AreRowWeights, no_weight};
 
+use criteria_model::CERTIFICATE_BOUND;
 use std::marker::Model;
+
+/// The most rows of a clash: the basic variable's and one for each increment.
+pub const MAX_ROW_WEIGHTS: usize = 25;
 
 /// A row, by its number, and its weight.
 #[derive(Clone, Copy, PartialEq, Eq, Debug)]
@@ -11,30 +15,33 @@ pub struct RowWeight {
     pub weight: i128,
 }
 
-/// At most 25 rows, ascending, each with a positive weight below 2^96.
-// The cells behind the items hold no row, so that equal lists are equal values.
+/// At most [`MAX_ROW_WEIGHTS`] rows, ascending, each with a positive weight below
+/// [`CERTIFICATE_BOUND`].
+// The cells after the items hold no row, so that equal lists are equal values.
 #[derive(Clone, Copy, PartialEq, Eq, Debug)]
 pub struct RowWeights {
-    items: [RowWeight; 25],
+    items: [RowWeight; MAX_ROW_WEIGHTS],
     len: u8,
 }
 
 impl Model for RowWeights {
     ghost use Rattle.std.specs.Prelude.{List, length, take};
     ghost use Rattle.simplex.specs.declared.row_weights.RowWeight.{RowWeight};
-    ghost use Rattle.simplex.specs.Weights.{IsPadded, AreRowWeights, padded, padded-take, length-padded};
+    ghost use Rattle.simplex.specs.declared.row_weights.TheConstants.{MAX_ROW_WEIGHTS};
+    ghost use Rattle.simplex.specs.Weights.{AreRowWeights, no_weight};
+    ghost use Rattle.row_laws.specs.Padded.{IsPadded, padded, padded-take, length-padded};
 
     ghost Value = { List RowWeight };
 
     ghost view = { λ t. take t.len t.items };
 
-    ghost invariant = { λ t. IsPadded t.len t.items × AreRowWeights (take t.len t.items) };
+    ghost invariant = { λ t. IsPadded MAX_ROW_WEIGHTS no_weight t.len t.items × AreRowWeights (take t.len t.items) };
 
-    ghost inverse = { λ items. record { items = padded items; len = length items } };
+    ghost inverse = { λ items. record { items = padded MAX_ROW_WEIGHTS no_weight items; len = length items } };
 
     ghost inverse_ok = { λ t h i. record {
-      items = padded-take t.len t.items h.0 i;
-      len = length-padded t.len t.items h.0 i;
+      items = padded-take MAX_ROW_WEIGHTS no_weight t.len t.items h.0 i;
+      len = length-padded MAX_ROW_WEIGHTS no_weight t.len t.items h.0 i;
     } };
 }
 
@@ -46,18 +53,18 @@ impl RowWeights {
         ensures { result ≡ [] }
     {
         RowWeights {
-            items: [NO_WEIGHT; 25],
+            items: [NO_WEIGHT; MAX_ROW_WEIGHTS],
             len: 0,
         }
     }
 
     /// Adds a row after the others.
     pub fn push(&mut self, row: u32, weight: i128)
-        requires room { length self.old < 25 }
+        requires room { length self.old < MAX_ROW_WEIGHTS }
         requires numbered { 1 ≤ row }
         requires after { All (λ item. item.row < row) self.old }
         requires positive { pos 0 <ℤ weight }
-        requires within { unsigned_abs weight < 2 ^ 96 }
+        requires within { unsigned_abs weight < CERTIFICATE_BOUND }
         ensures { self.new ≡ self.old ++ (record { row = row; weight = weight }) ∷ [] }
     {
         let cells = &mut self.items;

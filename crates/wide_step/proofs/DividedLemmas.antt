@@ -2,7 +2,8 @@
 use Rattle.std.proofs.Common.{◌≡◌, ◌∙◌, ℕ, ◌+◌, ◌-◌, ◌*◌, ◌/◌, ◌%◌, ◌<◌, ◌≤◌, ◌^◌, ℤ, pos, neg_ℤ, ◌+ℤ◌, ◌-ℤ◌, ◌*ℤ◌, unsigned_abs, to_z, of_z, ap, arith}
 use Rattle.std.proofs.lemmas.Int.{ints}
 use Rattle.std.proofs.lemmas.Nat.{div-add-mod'}
-use Rattle.wide_step.proofs.Integers.{add-mul, neg-mul, sub-mul, same_quotient, read_back}
+use Rattle.row_laws.proofs.Integers.{add-mul, neg-mul, sub-mul, read_back}
+use Rattle.wide_step.proofs.Integers.{same_quotient}
 use Rattle.std.specs.Int.{w128}
 use Rattle.wide_step.specs.declared.divided.Divided.{Divided}
 use Rattle.wide_step.specs.Divided.{IsDivided}

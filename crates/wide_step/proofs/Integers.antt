@@ -1,34 +1,13 @@
--- Laws of whole numbers: products over sums, quotients that are alone, and numbers that go to bits and back.
+-- Laws of whole numbers that quotients rest on: multiples closer than the divisor are equal, and exact quotients and differences come back from bits.
 use Rattle.std.proofs.Common.{◌≡◌, ◌∙◌, ℕ, ◌+◌, ◌*◌, ◌<◌, ◌≤◌, ◌^◌, ℤ, pos, neg_ℤ, ◌+ℤ◌, ◌-ℤ◌, ◌*ℤ◌, zero, suc, refl, unsigned_abs, ap, sym, arith, to_z, of_z, FitsSigned}
 use Rattle.std.proofs.lemmas.Int.{ints, unsigned_abs-mul, to_z-of_z, fits_signed_from_abs, quot-rem, rem_below}
 use Rattle.std.proofs.lemmas.Nat.{mul-lt}
 use Rattle.std.specs.Int.{Width}
 use Rattle.std.specs.Int.RustNames.{int_div}
 use borrow.Author.Differences.{up, down, sum_is_lem, product_is, neg_is, same_in}
+use Rattle.row_laws.proofs.Integers.{sub-mul, zero_of_abs, read_back, unsigned_abs-sub}
 use Rattle.wide_step.specs.Quotient.{HasQuotient}
 use mir.Val.{hbits}
-
--- a factor goes into a sum
-pub add-mul : (a b c : ℤ) → (a +ℤ b) *ℤ c ≡ a *ℤ c +ℤ b *ℤ c
-add-mul a b c =
-    omega (arith, ints, ap (λ n. n * up c) (sum_is_lem a b), ap (λ n. n * down c) (sum_is_lem a b))
-
-pub neg-mul : (a b : ℤ) → neg_ℤ a *ℤ b ≡ neg_ℤ (a *ℤ b)
-neg-mul a b =
-    let n = neg_is a in
-    omega (arith, ints, ap (λ k. k * up b) n.0, ap (λ k. k * down b) n.0, ap (λ k. k * up b) n.1, ap (λ k. k * down b) n.1)
-
-pub sub-mul : (a b c : ℤ) → (a -ℤ b) *ℤ c ≡ a *ℤ c -ℤ b *ℤ c
-sub-mul a b c = let h = add-mul a (neg_ℤ b) c in let k = neg-mul b c in omega (arith, ints)
-
-pub mul_assoc : (a b c : ℤ) → (a *ℤ b) *ℤ c ≡ a *ℤ (b *ℤ c)
-mul_assoc a b c =
-    let p = product_is a b in
-    let q = product_is b c in
-    same_in ((a *ℤ b) *ℤ c) (a *ℤ (b *ℤ c)) (omega (arith, product_is (a *ℤ b) c, product_is a (b *ℤ c), ap (λ n. n * up c) p.0, ap (λ n. n * down c) p.0, ap (λ n. n * up c) p.1, ap (λ n. n * down c) p.1, ap (λ n. up a * n) q.0, ap (λ n. up a * n) q.1, ap (λ n. down a * n) q.0, ap (λ n. down a * n) q.1))
-
-pub abs-zero : (a : ℤ) → unsigned_abs a ≡ 0 → a ≡ pos 0
-abs-zero a h = omega (arith, ints)
 
 zero_factor : (m n : ℕ) → m * n < n → m ≡ 0
 zero_factor zero n h = refl
@@ -36,16 +15,12 @@ zero_factor (suc m) n h = absurd (omega arith)
 
 -- a multiple that is smaller than what it is a multiple of is 0
 zero_from_small : (k e : ℤ) → unsigned_abs (k *ℤ e) < unsigned_abs e → k ≡ pos 0
-zero_from_small k e h = abs-zero k (zero_factor (unsigned_abs k) (unsigned_abs e) (omega (arith, unsigned_abs-mul k e)))
+zero_from_small k e h = zero_of_abs k (zero_factor (unsigned_abs k) (unsigned_abs e) (omega (arith, unsigned_abs-mul k e)))
 
 -- two multiples that are closer than the divisor are equal
 pub same_quotient : (p q e : ℤ) → unsigned_abs (p *ℤ e -ℤ q *ℤ e) < unsigned_abs e → p ≡ q
 same_quotient p q e h =
     let z = zero_from_small (p -ℤ q) e (omega (arith, ap unsigned_abs (sub-mul p q e))) in omega (arith, ints)
-
--- a number that is small enough is read from its bits as it was
-pub read_back : (w : Width) (z : ℤ) → unsigned_abs z < 2 ^ hbits w → to_z w (of_z w z) ≡ z
-read_back w z h = to_z-of_z w z (fits_signed_from_abs w z h)
 
 pub has_quotient_along : (x y e f : ℤ) → y ≡ x → f ≡ e → HasQuotient x e → HasQuotient y f
 has_quotient_along x y e f p q h = rw (p, q) h
@@ -75,19 +50,16 @@ divided_back w x e q h p x_size e_size =
 pub products_back : (w : Width) (a b c d : ℤ) → unsigned_abs a < 2 ^ hbits w → unsigned_abs b < 2 ^ hbits w → unsigned_abs c < 2 ^ hbits w → unsigned_abs d < 2 ^ hbits w → to_z w (of_z w a) *ℤ to_z w (of_z w b) -ℤ to_z w (of_z w c) *ℤ to_z w (of_z w d) ≡ a *ℤ b -ℤ c *ℤ d
 products_back w a b c d h k l m = rw (read_back w a h, read_back w b k, read_back w c l, read_back w d m) refl
 
-pub difference-abs-le : (x y : ℤ) → unsigned_abs (x -ℤ y) ≤ unsigned_abs x + unsigned_abs y
-difference-abs-le x y = omega (arith, ints)
-
 -- a difference, whose two numbers are read from their bits
 pub difference_back : (w : Width) (x y : ℤ) → unsigned_abs x + unsigned_abs y < 2 ^ hbits w → to_z w (of_z w (to_z w (of_z w x) -ℤ to_z w (of_z w y))) ≡ x -ℤ y
 difference_back w x y h =
     rw (read_back w x (omega arith), read_back w y (omega arith))
-    (read_back w (x -ℤ y) (omega (arith, difference-abs-le x y)))
+    (read_back w (x -ℤ y) (omega (arith, unsigned_abs-sub x y)))
 
 pub difference_fits : (w : Width) (x y : ℤ) → unsigned_abs x + unsigned_abs y < 2 ^ hbits w → FitsSigned w (to_z w (of_z w x) -ℤ to_z w (of_z w y))
 difference_fits w x y h =
     rw (read_back w x (omega arith), read_back w y (omega arith))
-    (fits_signed_from_abs w (x -ℤ y) (omega (arith, difference-abs-le x y)))
+    (fits_signed_from_abs w (x -ℤ y) (omega (arith, unsigned_abs-sub x y)))
 
 pub products_difference : (x y p q : ℤ) → x ≡ p → y ≡ q → x -ℤ y ≡ p -ℤ q
 products_difference x y p q e f = rw (e, f) refl
@@ -95,4 +67,4 @@ products_difference x y p q e f = rw (e, f) refl
 -- the quotient of a difference is no larger than its two numbers are together
 pub quotient_size : (q e x y d : ℤ) (bound : ℕ) → 0 < unsigned_abs e → q *ℤ e ≡ d → x -ℤ y ≡ d → unsigned_abs x + unsigned_abs y < bound → unsigned_abs q < bound
 quotient_size q e x y d bound some exact is size =
-    omega (arith, factor-abs-le q e some, ap unsigned_abs (exact ∙ sym is), difference-abs-le x y)
+    omega (arith, factor-abs-le q e some, ap unsigned_abs (exact ∙ sym is), unsigned_abs-sub x y)

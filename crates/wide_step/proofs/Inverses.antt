@@ -5,7 +5,8 @@ use Rattle.std.proofs.lemmas.Nat.{div-add-mod', pow-add}
 use Rattle.std.proofs.Math.IntN.{*ℤ_comm}
 use Rattle.std.specs.Int.{Width, w64, w128, int_wrap}
 use mir.Val.{bits, hbits}
-use Rattle.wide_step.proofs.Integers.{same_quotient, mul_assoc, sub-mul}
+use Rattle.row_laws.proofs.Integers.{mul_assoc, sub-mul}
+use Rattle.wide_step.proofs.Integers.{same_quotient}
 use Rattle.wide_step.specs.Inverse.{IsInverseUpTo}
 use Rattle.std.proofs.Math.Pow.{pow_mono}
 use lib.Signed.{shr_z, mag_shr}

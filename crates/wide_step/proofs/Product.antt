@@ -3,7 +3,7 @@ use Rattle.std.proofs.Common.{◌≡◌, ℕ, ◌+◌, ◌*◌, ◌/◌, ◌%◌
 use Rattle.std.proofs.lemmas.Int.{ints}
 use Rattle.wide_step.specs.declared.divided.Divided.{Divided}
 use Rattle.wide_step.specs.Divided.{IsDivided}
-use Rattle.wide_step.proofs.Integers.{add-mul}
+use Rattle.row_laws.proofs.Integers.{add-mul}
 use borrow.Author.Differences.{up, down}
 
 pub record IsPartial (product : ℤ) (divisor : ℕ) (sum unit : Divided) (rest : ℕ) : Type 0 where

@@ -3,7 +3,8 @@ use Rattle.std.proofs.lemmas.Int.{ints, fits_signed_from_abs}
 use Rattle.std.proofs.lemmas.Nat.{le_or_l, le_or_r}
 use Rattle.std.specs.Int.{w128, w64}
 use Rattle.std.specs.Int.RustNames.{int_div}
-use Rattle.wide_step.proofs.Integers.{read_back, divided_is, divided_back, factor-abs-le}
+use Rattle.row_laws.proofs.Integers.{read_back}
+use Rattle.wide_step.proofs.Integers.{divided_is, divided_back, factor-abs-le}
 use Rattle.wide_step.proofs.exact_quotient.Goals as goal
 
 -- a bound on the `|` of two sizes is one on each

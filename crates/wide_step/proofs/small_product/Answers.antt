@@ -1,6 +1,7 @@
 use Rattle.std.proofs.Common.{arith, ◌≡◌, ◌∙◌, ◌<◌, ◌^◌, ℤ, ◌*ℤ◌, unsigned_abs, to_z, of_z, ap}
 use Rattle.std.specs.Int.{w128, w64}
-use Rattle.wide_step.proofs.Integers.{read_back, abs-mul-lt}
+use Rattle.row_laws.proofs.Integers.{read_back}
+use Rattle.wide_step.proofs.Integers.{abs-mul-lt}
 use Rattle.wide_step.proofs.small_product.Goals as goal
 
 narrow_is : (a x : ℤ) → unsigned_abs a < 2 ^ 62 → x ≡ to_z w64 (of_z w64 (to_z w128 (of_z w128 a))) → x ≡ a

@@ -2,7 +2,8 @@ use Rattle.std.proofs.Common.{◌≡◌, ◌∙◌, ◌<◌, ◌^◌, ℤ, to_z,
 use Rattle.std.specs.Int.{w128}
 use Rattle.std.proofs.lemmas.Int.{ints, fits_signed_from_abs}
 use Rattle.wide_step.specs.Quotient.{HasQuotient}
-use Rattle.wide_step.proofs.Integers.{read_back, products_back, has_quotient_along}
+use Rattle.row_laws.proofs.Integers.{read_back}
+use Rattle.wide_step.proofs.Integers.{products_back, has_quotient_along}
 use Rattle.wide_step.proofs.small_step.Goals as goal
 
 difference_size : (x y : ℤ) → unsigned_abs x < 2 ^ 124 → unsigned_abs y < 2 ^ 124 → unsigned_abs (x -ℤ y) < 2 ^ 125

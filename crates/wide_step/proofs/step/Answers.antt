@@ -2,7 +2,8 @@ use Rattle.std.proofs.Common.{◌≡◌, ◌∙◌, ◌<◌, ◌^◌, ℤ, pos, 
 use Rattle.std.specs.Int.{w128}
 use Rattle.std.proofs.lemmas.Int.{ints}
 use Rattle.wide_step.specs.Quotient.{HasQuotient}
-use Rattle.wide_step.proofs.Integers.{read_back, products_back, has_quotient_along, neg-mul}
+use Rattle.row_laws.proofs.Integers.{read_back, neg-mul}
+use Rattle.wide_step.proofs.Integers.{products_back, has_quotient_along}
 use Rattle.std.proofs.Math.IntN.{*ℤ_comm}
 use lib.Signed.{lt_z}
 use Rattle.wide_step.proofs.step.Goals as goal

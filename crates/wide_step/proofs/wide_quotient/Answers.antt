@@ -1,7 +1,7 @@
 use Rattle.std.proofs.Common.{◌≡◌, ◌∙◌, ◌<◌, ◌^◌, ℤ, pos, to_z, of_z, unsigned_abs, ◌*ℤ◌, ap, subst, refl, arith}
 use Rattle.std.specs.Int.{w128}
 use Rattle.wide_step.specs.Divided.{IsDivided}
-use Rattle.wide_step.proofs.Integers.{read_back}
+use Rattle.row_laws.proofs.Integers.{read_back}
 use Rattle.wide_step.proofs.DividedLemmas.{signed_difference}
 use Rattle.wide_step.proofs.wide_quotient.Goals as goal
 

@@ -2,8 +2,9 @@ use Rattle.std.proofs.Common.{◌≡◌, ◌≢◌, ◌∙◌, ◌<◌, ℕ, ℤ
 use Rattle.std.proofs.lemmas.List.{get_or_default}
 use Rattle.std.specs.Int.{w128}
 use Rattle.wide_step.specs.Quotient.{HasQuotient}
-use Rattle.wide_step.proofs.Integers.{read_back}
-use Rattle.fraction_free.specs.Changes.{number_at, IsOtherLine, IsPivotLine}
+use Rattle.row_laws.proofs.Integers.{read_back}
+use Rattle.row_laws.specs.Rows.{entry}
+use Rattle.fraction_free.specs.Changes.{IsOtherLine, IsPivotLine}
 use Rattle.fraction_free.specs.Representation.{CanExchange}
 use Rattle.fraction_free.proofs.LineSteps.{lines_left, lines_exchanged}
 use Rattle.fraction_free.proofs.lines.exchange_lines.Goals as goal
@@ -12,7 +13,7 @@ use Rattle.fraction_free.proofs.lines.exchange_lines.Goals.{then-row-at, else-ro
 exact_along : (s t : ℤ) (at column row : ℕ) (old : List (List ℤ)) (pivot line : List ℤ) → t ≡ s → pivot ≡ get_or old at [] → line ≡ get_or old row []
     → CanExchange s at column old → row < length old → row ≢ at
     → (place : ℕ) → place < length line → place ≢ column
-    → HasQuotient (number_at pivot column *ℤ number_at line place -ℤ number_at line column *ℤ number_at pivot place) t
+    → HasQuotient (entry pivot column *ℤ entry line place -ℤ entry line column *ℤ entry pivot place) t
 exact_along s t at column row old pivot line i j k h below apart place inside other =
     rw (i, j, k) (h.exact row place below apart (omega (arith, ap length k, h.len row below)) other)
 

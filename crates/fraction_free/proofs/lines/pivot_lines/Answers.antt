@@ -1,7 +1,7 @@
 use Rattle.std.proofs.Common.{◌≡◌, ◌∙◌, ℕ, ℤ, List, length, to_z, of_z, sym, ap, arith}
 use Rattle.std.proofs.lemmas.List.{with_items_is}
 use Rattle.std.specs.Int.{w128}
-use Rattle.wide_step.proofs.Integers.{read_back}
+use Rattle.row_laws.proofs.Integers.{read_back}
 use Rattle.fraction_free.specs.Representation.{AreExchanged}
 use Rattle.fraction_free.proofs.lines.pivot_lines.Goals as goal
 

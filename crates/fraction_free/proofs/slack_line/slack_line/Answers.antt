@@ -3,13 +3,13 @@ use Rattle.std.proofs.lemmas.List.{length-replicate}
 use Rattle.std.proofs.lemmas.Option.{get_or_from_slice_get}
 use Rattle.std.proofs.lemmas.Int.{to_z-of_z}
 use Rattle.std.specs.Int.{w8, w128}
-use Rattle.wide_step.proofs.Integers.{read_back}
-use Rattle.fraction_free.specs.Changes.{number_at}
+use Rattle.row_laws.proofs.Integers.{read_back}
+use Rattle.row_laws.specs.Rows.{entry}
 use Rattle.fraction_free.proofs.SlackLine.{zeros_at, first_line, next_line, last_line, added_size, factor_size}
 use Rattle.fraction_free.proofs.slack_line.slack_line.Goals as goal
 
-zero_size : (width at : ℕ) (zeros : List ℤ) → zeros ≡ replicate width (pos 0) → unsigned_abs (number_at zeros at) ≤ 0
-zero_size width at zeros is = subst (λ (xs : List ℤ). unsigned_abs (number_at xs at) ≤ 0) (sym is) (subst (λ (n : ℤ). unsigned_abs n ≤ 0) (sym (zeros_at width at)) (omega arith))
+zero_size : (width at : ℕ) (zeros : List ℤ) → zeros ≡ replicate width (pos 0) → unsigned_abs (entry zeros at) ≤ 0
+zero_size width at zeros is = subst (λ (xs : List ℤ). unsigned_abs (entry xs at) ≤ 0) (sym is) (subst (λ (n : ℤ). unsigned_abs n ≤ 0) (sym (zeros_at width at)) (omega arith))
 
 pub loop-variable-init : goal.loop-variable-init
 loop-variable-init c =

@@ -2,7 +2,7 @@ use Rattle.std.proofs.Common.{◌<◌, ◌^◌, ℤ, ◌-ℤ◌, ◌*ℤ◌, uns
 use Rattle.std.proofs.lemmas.Int.{ints}
 use Rattle.std.specs.Int.{w128}
 use Rattle.wide_step.specs.Quotient.{HasQuotient}
-use Rattle.wide_step.proofs.Integers.{read_back, sub-mul}
+use Rattle.row_laws.proofs.Integers.{read_back, sub-mul}
 use Rattle.pivot_bench.proofs.rounds.products_apart.Goals as goal
 
 less : (x y : ℤ) → unsigned_abs x < 2 ^ 120 → unsigned_abs y < 2 ^ 120 → unsigned_abs (x -ℤ y) < 2 ^ 126

@@ -1,5 +1,5 @@
 use Rattle.std.proofs.Common.{◌≡◌, ℕ, ◌+◌, ◌-◌, ◌<◌, ◌≤◌, ◌^◌, ℤ, pos, neg_ℤ, length, unsigned_abs, to_z, of_z, refl, sym, ap, subst, ◌∙◌, arith}
-use Rattle.minors.proofs.Ring.{abs-neg}
+use Rattle.row_laws.proofs.Integers.{unsigned_abs-neg}
 use Rattle.fraction_free.specs.Dictionary.{IsDictionary, entry_in}
 use Rattle.simplex.proofs.Variables.{HasVariables, variables_of}
 use Rattle.simplex.proofs.Sizes.{kept, entry_small, scale_small, negated_is, negated_fits}
@@ -39,4 +39,4 @@ returns-else-place-eq0-clause-variable_high c =
 pub returns-else-place-eq0-clause-size : goal.returns-else-place-eq0-clause-size
 returns-else-place-eq0-clause-size c =
     let small : unsigned_abs c.entry.result < 2 ^ 89 = subst (λ (n : ℤ). unsigned_abs n < 2 ^ 89) (sym c.entry.ensures) (entry_small c.args.work.now c.scale-scale.ensures.dictionary (c.args.row - 1) (c.args.place - 1) (omega arith) (omega arith)) in
-    subst (λ (n : ℤ). unsigned_abs n < 2 ^ 96) (sym (negated_is c.entry.result small)) (omega (arith, abs-neg c.entry.result))
+    subst (λ (n : ℤ). unsigned_abs n < 2 ^ 96) (sym (negated_is c.entry.result small)) (omega (arith, unsigned_abs-neg c.entry.result))

@@ -1,6 +1,7 @@
 use Rattle.std.proofs.Common.{◌≡◌, ◌∙◌, ◌^◌, ℤ, ◌-ℤ◌, ◌*ℤ◌, to_z, of_z, ap, sym, arith}
 use Rattle.std.specs.Int.{w128}
-use Rattle.wide_step.proofs.Integers.{read_back, difference_back, difference_fits, products_difference, products_back, quotient_size}
+use Rattle.row_laws.proofs.Integers.{read_back}
+use Rattle.wide_step.proofs.Integers.{difference_back, difference_fits, products_difference, products_back, quotient_size}
 use Rattle.wide_step.proofs.divisor.small_step.Goals as goal
 
 pub overflow_sub-small_product : goal.overflow_sub-small_product

@@ -3,7 +3,7 @@ use Rattle.std.proofs.lemmas.Int.{to_z-of_z}
 use Rattle.std.specs.Int.{w8, w128}
 use Rattle.std.specs.Prelude.{vec_capacity}
 use Rattle.minors.specs.Combination.{IsCombination}
-use Rattle.wide_step.proofs.Integers.{read_back}
+use Rattle.row_laws.proofs.Integers.{read_back}
 use Rattle.fraction_free.specs.declared.loaded.LoadedRow.{LoadedRow}
 use Rattle.fraction_free.specs.Dictionary.{DictionaryView, IsLoadable}
 use Rattle.fraction_free.specs.Representation.{CanCombine, AreMinors, row_of, square_of}

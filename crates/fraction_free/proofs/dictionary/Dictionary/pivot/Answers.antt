@@ -1,8 +1,9 @@
 use Rattle.std.proofs.Common.{◌≡◌, ◌≢◌, ◌+◌, ◌-◌, ℕ, ℤ, pos, length, to_z, of_z, sym, ap, subst, refl, arith}
 use Rattle.std.specs.Int.{w128}
-use Rattle.wide_step.proofs.Integers.{read_back}
+use Rattle.row_laws.proofs.Integers.{read_back}
 use Rattle.fraction_free.specs.Arrangement.{Arranged}
-use Rattle.fraction_free.specs.Changes.{number_at, IsPivoted}
+use Rattle.row_laws.specs.Rows.{entry}
+use Rattle.fraction_free.specs.Changes.{IsPivoted}
 use Rattle.fraction_free.specs.Dictionary.{DictionaryView, Satisfies, line_of}
 use Rattle.fraction_free.specs.Representation.{CanExchange}
 use Rattle.fraction_free.proofs.Kept.{can_exchange, scale_fits, dictionary_from_kept, satisfied}
@@ -10,7 +11,7 @@ use Rattle.fraction_free.proofs.PivotKept.{IsExchange, exchange_from, exchanged_
 use Rattle.fraction_free.proofs.dictionary.Dictionary.pivot.Goals as goal
 use Rattle.fraction_free.proofs.dictionary.Dictionary.pivot.Goals.{After-swap}
 
-nonzero_of : (t u : DictionaryView) (row col n : ℕ) → t ≡ u → n ≡ col → number_at (line_of u row) (col - 1) ≢ pos 0 → number_at (line_of t row) (n - 1) ≢ pos 0
+nonzero_of : (t u : DictionaryView) (row col n : ℕ) → t ≡ u → n ≡ col → entry (line_of u row) (col - 1) ≢ pos 0 → entry (line_of t row) (n - 1) ≢ pos 0
 nonzero_of t u row col n same is h = rw (same, is) h
 
 pub pivot_lines-entry-requires-clause-exact : goal.pivot_lines-entry-requires-clause-exact

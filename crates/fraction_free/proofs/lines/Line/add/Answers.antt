@@ -2,8 +2,8 @@ use Rattle.std.proofs.Common.{◌≡◌, ◌≢◌, ◌∙◌, ◌<◌, ◌^◌,
 use Rattle.std.proofs.lemmas.List.{length-set, get_or-set_same, get_or-set_other}
 use Rattle.std.proofs.lemmas.Bool.{cases_eq}
 use Rattle.std.specs.Int.{w128}
-use Rattle.wide_step.proofs.Integers.{read_back}
-use Rattle.fraction_free.specs.Changes.{number_at}
+use Rattle.row_laws.proofs.Integers.{read_back}
+use Rattle.row_laws.specs.Rows.{entry}
 use Rattle.fraction_free.proofs.Sums.{sum_back, product_fits, sum_fits}
 use Rattle.fraction_free.proofs.lines.Line.add.Goals as goal
 
@@ -17,29 +17,29 @@ loop-place-preserved c =
     let times = to_z w128 (of_z w128 c.args.times) in
     let t_is : times ≡ c.args.times = read_back w128 c.args.times (omega (arith, c.requires.times)) in
     let inside : place < length now = omega (arith, v.len) in
-    let value = sum_back c.get.result c.get-in-loop-place.result c.args.times (number_at now place) (number_at other_line place) c.get.ensures c.get-in-loop-place.ensures
+    let value = sum_back c.get.result c.get-in-loop-place.result c.args.times (entry now place) (entry other_line place) c.get.ensures c.get-in-loop-place.ensures
     (subst (λ (n : ℤ). unsigned_abs n < 2 ^ 100) (sym (v.rest place (omega arith))) (c.requires.sizes place)) (c.requires.other_sizes place) c.requires.times in
-    let here = ap (λ (ns : List ℤ). number_at ns place) c.set.ensures ∙ get_or-set_same now place _ (pos 0) inside ∙ value in
-    let there : (k : ℕ) → k ≢ place → number_at c.set.new.self k ≡ number_at now k = λ k apart. ap (λ (ns : List ℤ). number_at ns k) c.set.ensures ∙ get_or-set_other now place k _ (pos 0) apart in
+    let here = ap (λ (ns : List ℤ). entry ns place) c.set.ensures ∙ get_or-set_same now place _ (pos 0) inside ∙ value in
+    let there : (k : ℕ) → k ≢ place → entry c.set.new.self k ≡ entry now k = λ k apart. ap (λ (ns : List ℤ). entry ns k) c.set.ensures ∙ get_or-set_other now place k _ (pos 0) apart in
     record {
       len = ap length c.set.ensures ∙ length-set now place _ ∙ v.len;
       sums = λ k below.
           elim (cases_eq k place) [
             | inl e ↦
-                ap (number_at c.set.new.self) e ∙ here
-                ∙ ap (λ (n : ℤ). n +ℤ c.args.times *ℤ number_at other_line place) (v.rest place (omega arith))
-                ∙ ap (λ (n : ℤ). number_at old place +ℤ n *ℤ number_at other_line place) (sym t_is)
-                ∙ ap (λ j. number_at old j +ℤ times *ℤ number_at other_line j) (sym e)
+                ap (entry c.set.new.self) e ∙ here
+                ∙ ap (λ (n : ℤ). n +ℤ c.args.times *ℤ entry other_line place) (v.rest place (omega arith))
+                ∙ ap (λ (n : ℤ). entry old place +ℤ n *ℤ entry other_line place) (sym t_is)
+                ∙ ap (λ j. entry old j +ℤ times *ℤ entry other_line j) (sym e)
             | inr ne ↦ there k ne ∙ v.sums k (omega arith)
           ];
       rest = λ k above. there k (omega arith) ∙ v.rest k (omega arith);
     }
 
 pub overflow_mul-times : goal.overflow_mul-times
-overflow_mul-times c = product_fits c.get-in-loop-place.result c.args.times (number_at c.args.other.now c.loop-place.place) c.get-in-loop-place.ensures (c.requires.other_sizes c.loop-place.place) c.requires.times
+overflow_mul-times c = product_fits c.get-in-loop-place.result c.args.times (entry c.args.other.now c.loop-place.place) c.get-in-loop-place.ensures (c.requires.other_sizes c.loop-place.place) c.requires.times
 
 pub overflow_add-get : goal.overflow_add-get
 overflow_add-get c =
     let v = c.loop-place.invariant in
-    sum_fits c.get.result c.get-in-loop-place.result c.args.times (number_at c.loop-place.self c.loop-place.place) (number_at c.args.other.now c.loop-place.place) c.get.ensures c.get-in-loop-place.ensures
+    sum_fits c.get.result c.get-in-loop-place.result c.args.times (entry c.loop-place.self c.loop-place.place) (entry c.args.other.now c.loop-place.place) c.get.ensures c.get-in-loop-place.ensures
     (subst (λ (n : ℤ). unsigned_abs n < 2 ^ 100) (sym (v.rest c.loop-place.place (omega arith))) (c.requires.sizes c.loop-place.place)) (c.requires.other_sizes c.loop-place.place) c.requires.times

@@ -2,8 +2,9 @@ use Rattle.std.proofs.Common.{◌≡◌, ◌∙◌, ◌<◌, ◌+◌, ◌^◌, �
 use Rattle.std.proofs.lemmas.Int.{to_z-of_z}
 use Rattle.std.specs.Int.{w128}
 use Rattle.wide_step.specs.Quotient.{HasQuotient}
-use Rattle.wide_step.proofs.Integers.{read_back}
-use Rattle.fraction_free.specs.Changes.{with_sign, number_at}
+use Rattle.row_laws.proofs.Integers.{read_back}
+use Rattle.row_laws.specs.Rows.{entry}
+use Rattle.fraction_free.specs.Changes.{with_sign}
 use Rattle.fraction_free.proofs.Signs.{with_sign-mul, with_sign-abs, with_sign-difference}
 use Rattle.fraction_free.proofs.LineSteps.{IsExchangedTo, products, exchanged_more, exchanged_past_column, exchanged_all, stays}
 use Rattle.fraction_free.proofs.lines.Line.exchange.Goals as goal
@@ -19,11 +20,11 @@ signed_back r s y a b h e f a_size b_size =
     number_back r (with_sign a b) is (omega (arith, with_sign-abs a b))
 
 -- with the entry's sign in entry and factor, the quotient has it too
-has_signed : (s p x f y entry factor other number : ℤ) → entry ≡ with_sign p p → factor ≡ with_sign p f → other ≡ y → number ≡ x → HasQuotient (p *ℤ x -ℤ f *ℤ y) s
-    → HasQuotient (entry *ℤ number -ℤ factor *ℤ other) s
-has_signed s p x f y entry factor other number g i j k h = record {
+has_signed : (s p x f y lead factor other number : ℤ) → lead ≡ with_sign p p → factor ≡ with_sign p f → other ≡ y → number ≡ x → HasQuotient (p *ℤ x -ℤ f *ℤ y) s
+    → HasQuotient (lead *ℤ number -ℤ factor *ℤ other) s
+has_signed s p x f y lead factor other number g i j k h = record {
   quotient = with_sign p h.quotient;
-  exact = with_sign-mul p h.quotient s ∙ ap (with_sign p) h.exact ∙ sym (with_sign-difference p x f y) ∙ sym (products entry factor other number _ _ _ _ g i j k);
+  exact = with_sign-mul p h.quotient s ∙ ap (with_sign p) h.exact ∙ sym (with_sign-difference p x f y) ∙ sym (products lead factor other number _ _ _ _ g i j k);
   size = omega (arith, with_sign-abs p h.quotient, h.size);
 }
 
@@ -33,7 +34,7 @@ exchange_at-requires-clause-exact c =
     let pivot = c.args.pivot.now in
     let old = c.args.self.now in
     let p_size = c.requires.pivot_sizes c.args.column in
-    has_signed c.args.scale.now (number_at pivot c.args.column) (number_at old c.loop-place.place) (number_at old c.args.column) (number_at pivot c.loop-place.place) _ _ _ _
+    has_signed c.args.scale.now (entry pivot c.args.column) (entry old c.loop-place.place) (entry old c.args.column) (entry pivot c.loop-place.place) _ _ _ _
     (signed_back c.with_sign-entry.result c.get-sign.result c.get-sign.result _ _ c.with_sign-entry.ensures c.get-sign.ensures c.get-sign.ensures p_size p_size)
     (signed_back c.with_sign-factor.result c.get-sign.result c.get.result _ _ c.with_sign-factor.ensures c.get-sign.ensures c.get.ensures p_size (c.requires.sizes c.args.column))
     (number_back c.get-then-place-column.result _ c.get-then-place-column.ensures (c.requires.pivot_sizes c.loop-place.place))
@@ -60,11 +61,11 @@ loop-place-preserved c =
 pub returns-then-entry-number : goal.returns-then-entry-number
 returns-then-entry-number c =
     let p_size = c.requires.pivot_sizes c.args.column in
-    let entry = signed_back c.with_sign-entry.result c.get-sign.result c.get-sign.result _ _ c.with_sign-entry.ensures c.get-sign.ensures c.get-sign.ensures p_size p_size in
+    let lead = signed_back c.with_sign-entry.result c.get-sign.result c.get-sign.result _ _ c.with_sign-entry.ensures c.get-sign.ensures c.get-sign.ensures p_size p_size in
     let factor = signed_back c.with_sign-factor.result c.get-sign.result c.get.result _ _ c.with_sign-factor.ensures c.get-sign.ensures c.get.ensures p_size (c.requires.sizes c.args.column) in
     let fits : FitsSigned w128 c.number.result = record { sfits = c.number.type_inv } in
     let number = to_z-of_z w128 c.number.result fits ∙ c.number.ensures in
-    stays c.args.scale.now c.args.column c.args.pivot.now c.args.self.now (sym entry ∙ ap (to_z w128) c.if-entry-number.true ∙ number) (sym factor ∙ ap (to_z w128) c.if-factor-eq0.true)
+    stays c.args.scale.now c.args.column c.args.pivot.now c.args.self.now (sym lead ∙ ap (to_z w128) c.if-entry-number.true ∙ number) (sym factor ∙ ap (to_z w128) c.if-factor-eq0.true)
 
 pub returns : goal.returns
 returns c =

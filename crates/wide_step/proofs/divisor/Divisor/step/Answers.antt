@@ -3,7 +3,8 @@ use Rattle.std.proofs.lemmas.Int.{ints}
 use Rattle.std.specs.Int.{w128}
 use Rattle.wide_step.specs.Quotient.{HasQuotient}
 use Rattle.wide_step.specs.Inverse.{HasInverse}
-use Rattle.wide_step.proofs.Integers.{read_back, products_back}
+use Rattle.row_laws.proofs.Integers.{read_back}
+use Rattle.wide_step.proofs.Integers.{products_back}
 use Rattle.wide_step.proofs.divisor.Divisor.step.Goals as goal
 use Rattle.wide_step.proofs.divisor.Divisor.step.Goals.{After-short_step, After-small_step}
 

@@ -2,7 +2,7 @@ use Rattle.std.proofs.Common.{◌≡◌, ◌∙◌, ◌*◌, ◌<◌, ◌^◌, �
 use Rattle.std.proofs.lemmas.Int.{to_z-of_z, to_z_pos}
 use Rattle.std.specs.Int.{w64, w128, int_wrap}
 use Rattle.wide_step.specs.Inverse.{IsInverseUpTo}
-use Rattle.wide_step.proofs.Integers.{read_back}
+use Rattle.row_laws.proofs.Integers.{read_back}
 use Rattle.wide_step.proofs.Inverses.{short_up_to, long_turn, inverse_is}
 use Rattle.wide_step.proofs.inverse.Inverse.of.Goals as goal
 
