@@ -1,4 +1,4 @@
-ghost use Rattle.std.specs.Prelude.{◌≡◌, min, ◌+◌, ◌-◌, ◌^◌, ◌<◌, ◌≤◌, [], ◌∷◌, ◌++◌, Some, length, take, slice_get, IfOk, IfSome, OnOk, OnErr, vec_len, vec_capacity};
+ghost use Rattle.std.specs.Prelude.{◌≡◌, min, ◌+◌, ◌-◌, ◌^◌, ◌<◌, ◌≤◌, [], ◌∷◌, ◌++◌, Some, length, take, slice_get, IsOk, IfOk, IfSome, OnOk, OnErr, vec_len, vec_capacity};
 ghost use Rattle.std.specs.Option.{ForSome};
 ghost use Rattle.criteria_model.specs.Answers.{gain};
 ghost use Rattle.criteria_model.specs.Pairs.{IsFit};
@@ -43,6 +43,7 @@ impl Answers {
         ensures answers { self.new.answers ≡ self.old.answers }
         ensures spare { OnOk result (more ≤ self.new.spare) }
         ensures kept { self.old.spare ≤ self.new.spare }
+        ensures enough { more ≤ self.old.spare → IsOk result × (self.new ≡ self.old) }
         ensures err { OnErr result (self.new ≡ self.old) }
     {
         if more <= self.spare {
@@ -99,7 +100,8 @@ impl Answers {
         self.items.as_slice()
     }
 
-    /// Appends what `other` has more, as far as the spare memory goes. Answers how many answers are still missing.
+    /// Appends what `other` has more, as far as the spare memory goes. Returns how many answers are still
+    /// missing.
     pub fn copy_from(&mut self, other: &Answers) -> u32
         requires { BeginsWith other.now.answers self.old.answers }
         ensures answers { self.new.answers ≡ take (room_of self.old) other.now.answers }

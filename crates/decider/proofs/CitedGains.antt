@@ -1,5 +1,5 @@
 -- The rows of answers and the gains that they stand for.
-use Rattle.std.proofs.Common.{◌≡◌, ℕ, zero, suc, ◌+◌, ◌-◌, ◌<◌, List, [], ◌∷◌, ◌++◌, length, get_or, take, Option, Some, ℤ, pos, neg_ℤ, ◌+ℤ◌, ◌-ℤ◌, ◌*ℤ◌, ◌≤ℤ◌, refl, sym, ap, subst, ◌∙◌, arith, append_assoc}
+use Rattle.std.proofs.Common.{◌≡◌, ℕ, zero, suc, ◌+◌, ◌-◌, ◌<◌, List, [], ◌∷◌, ◌++◌, length, get_or, take, Option, Some, ℤ, pos, neg_ℤ, ◌+ℤ◌, ◌-ℤ◌, ◌*ℤ◌, ◌≤ℤ◌, refl, sym, ap, ap₂, subst, ◌∙◌, arith, append_assoc}
 use Rattle.std.specs.Prelude.{All, slice_get}
 use Rattle.std.specs.Option.{option_map_or}
 use Rattle.std.proofs.lemmas.Int.{ints}
@@ -19,7 +19,8 @@ use Rattle.criteria_model.specs.Answers.{gain}
 use Rattle.criteria_model.proofs.GainLemmas.{length-gain}
 use Rattle.row_laws.proofs.RowLemmas.{length-plus, length-times}
 use Rattle.farkas_check.specs.declared.cites.Cite.{Cite}
-use Rattle.farkas_check.specs.Sums.{cited_gain, total}
+use Rattle.farkas_check.specs.Sums.{cited_gain, sum_of_cites}
+use Rattle.farkas_check.proofs.SumLemmas.{cited_gain-there}
 use Rattle.farkas_check.specs.Proof.{IsThere}
 use Rattle.fraction_free.specs.declared.loaded.LoadedRow.{LoadedRow}
 use Rattle.fraction_free.specs.Dictionary.{loaded_at, no_row}
@@ -147,24 +148,15 @@ tried_coefficient levels answers pair side j =
     ∙ ap (λ (row : LoadedRow). get_or row.coefficients j (pos 0)) (get_or-append-add (rows_of_answers levels answers) (rows_of levels pair side) 0 no_row)
     ∙ ap (λ (l : List ℤ). get_or l j (pos 0)) (first_gain levels pair side)
 
--- ---- totals of cites
+-- ---- sums of cites
 
-pub total_at : (levels : List ℕ) (answers : List Answer) (own : List ℤ) (cites : List Cite) (j : ℕ) (of : ℕ → ℤ) → All (λ cite. of cite.answer ≡ get_or (cited_gain levels answers cite) j (pos 0)) cites
-    → get_or (total levels answers own cites) j (pos 0) ≡ get_or own j (pos 0) +ℤ cited_sum of cites
-total_at levels answers own [] j of same = add_zero (get_or own j (pos 0))
-  where
-    add_zero : (a : ℤ) → a ≡ a +ℤ pos 0
-    add_zero a = omega (arith, sums)
-total_at levels answers own (cite ∷ cites) j of same =
-    total_at levels answers (plus own (times cite.weight (cited_gain levels answers cite))) cites j of (All-tail (λ cite. of cite.answer ≡ get_or (cited_gain levels answers cite) j (pos 0)) cite cites same)
-    ∙ ap (λ (s : ℤ). s +ℤ cited_sum of cites)
-    (get_or-plus own (times cite.weight (cited_gain levels answers cite)) j
-    ∙ ap (λ (s : ℤ). get_or own j (pos 0) +ℤ s) (get_or-times cite.weight (cited_gain levels answers cite) j
-    ∙ ap (λ (n : ℤ). cite.weight *ℤ n) (sym (All-head (λ cite. of cite.answer ≡ get_or (cited_gain levels answers cite) j (pos 0)) cite cites same))))
-    ∙ regroup (get_or own j (pos 0)) (cite.weight *ℤ of cite.answer) (cited_sum of cites)
-  where
-    regroup : (a b c : ℤ) → (a +ℤ b) +ℤ c ≡ a +ℤ (b +ℤ c)
-    regroup a b c = omega (arith, sums)
+pub sum_of_cites-is : (levels : List ℕ) (answers : List Answer) (cites : List Cite) (j : ℕ) (of : ℕ → ℤ) → All (λ cite. of cite.answer ≡ get_or (cited_gain levels answers cite) j (pos 0)) cites
+    → sum_of_cites levels answers cites j ≡ cited_sum of cites
+sum_of_cites-is levels answers [] j of same = refl
+sum_of_cites-is levels answers (cite ∷ cites) j of same =
+    ap₂ (λ (n s : ℤ). cite.weight *ℤ n +ℤ s)
+    (sym (All-head (λ cite. of cite.answer ≡ get_or (cited_gain levels answers cite) j (pos 0)) cite cites same))
+    (sum_of_cites-is levels answers cites j of (All-tail (λ cite. of cite.answer ≡ get_or (cited_gain levels answers cite) j (pos 0)) cite cites same))
 
 -- a cite that is there has its answer
 pub found : (answers : List Answer) (cite : Cite) → IsThere answers cite → (answer : Answer) × (slice_get answers (cite.answer - 1) ≡ Some answer)
@@ -174,32 +166,11 @@ found answers cite there = (get_or answers (cite.answer - 1) (first answers cite
     first [] cite there = absurd (omega (arith, there.0, there.1))
     first (answer ∷ answers) cite there = answer
 
-gain_is : (levels : List ℕ) (answers : List Answer) (cite : Cite) (answer : Answer) → slice_get answers (cite.answer - 1) ≡ Some answer → cited_gain levels answers cite ≡ gain levels answer.pair answer.side
-gain_is levels answers cite answer here = ap (λ (o : Option Answer). option_map_or (λ a. gain levels a.pair a.side) o []) here
-
 pub cited_coefficients : (levels : List ℕ) (answers : List Answer) (more : List LoadedRow) (j : ℕ) (cites : List Cite) → All (IsThere answers) cites
     → All (λ cite. coefficient (rows_of_answers levels answers ++ more) j (first_row answers cite.answer) ≡ get_or (cited_gain levels answers cite) j (pos 0)) cites
 cited_coefficients levels answers more j cites there k x lt =
     let f = found answers (get_or cites k x) (there k x lt) in
-    first_coefficient levels answers more j (get_or cites k x).answer f.0 f.1 ∙ ap (λ (l : List ℤ). get_or l j (pos 0)) (sym (gain_is levels answers (get_or cites k x) f.0 f.1))
-
-pub length-total : (levels : List ℕ) (answers : List Answer) (own : List ℤ) (cites : List Cite) → length own ≡ increments levels → All (λ answer. IsFit levels answer.pair) answers → All (IsThere answers) cites
-    → length (total levels answers own cites) ≡ increments levels
-length-total levels answers own [] len fit there = len
-length-total levels answers own (cite ∷ cites) len fit there =
-    length-total levels answers (plus own (times cite.weight (cited_gain levels answers cite))) cites
-    (omega (arith, length-plus own (times cite.weight (cited_gain levels answers cite)), length-times cite.weight (cited_gain levels answers cite), gain_length, len)) fit (All-tail (IsThere answers) cite cites there)
-  where
-    f : (answer : Answer) × (slice_get answers (cite.answer - 1) ≡ Some answer)
-    f = found answers cite (All-head (IsThere answers) cite cites there)
-
-    fits : IsFit levels f.0.pair
-    fits =
-        subst (λ (a : Answer). IsFit levels a.pair) (get_or_from_slice_get answers (cite.answer - 1) f.0 f.0 f.1)
-        (fit (cite.answer - 1) f.0 (slice_get_within answers (cite.answer - 1) f.0 f.1))
-
-    gain_length : length (cited_gain levels answers cite) ≡ increments levels
-    gain_length = ap length (gain_is levels answers cite f.0 f.1) ∙ length-gain levels f.0.pair f.0.side fits
+    first_coefficient levels answers more j (get_or cites k x).answer f.0 f.1 ∙ ap (λ (l : List ℤ). get_or l j (pos 0)) (sym (cited_gain-there levels answers (get_or cites k x) f.0 f.1))
 
 pub cited_sum-times : (of : ℕ → ℤ) (d : ℤ) (cites : List Cite) → cited_sum of (times_cites d cites) ≡ d *ℤ cited_sum of cites
 cited_sum-times of d [] = sym (mul-zero d)

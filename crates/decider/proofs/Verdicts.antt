@@ -20,8 +20,8 @@ use Rattle.row_laws.proofs.RowLemmas.{length-times}
 use Rattle.farkas_check.specs.declared.cites.Cite.{Cite}
 use Rattle.farkas_check.specs.declared.combination.Combination.{Combination}
 use Rattle.farkas_check.specs.Cited.{no_cite}
-use Rattle.farkas_check.specs.Sums.{cited_side, total}
-use Rattle.farkas_check.specs.Proof.{MayWeigh, IsStrict, IsThere, HasStrict, HasScale, HasOwnWeights, HasCited, HasWeights, HasSums, Suits, Proves}
+use Rattle.farkas_check.specs.Sums.{cited_side}
+use Rattle.farkas_check.specs.Proof.{MayWeigh, IsStrict, IsThere, HasStrict, HasPositiveScale, HasNonnegativeIncrements, HasCited, HasWeights, HasSums, IsStrictEnough, Proves}
 use Rattle.farkas_check.proofs.Ranking.{proved_is_ranked_lem}
 use Rattle.simplex.specs.declared.row_weights.RowWeight.{RowWeight}
 use Rattle.simplex.specs.declared.found.Clash.{Clash}
@@ -37,7 +37,7 @@ use Rattle.decider.proofs.AnswerRows.{all_meets_rows}
 use Rattle.decider.proofs.Citing.{rows_for-length}
 use Rattle.decider.proofs.Walks.{rows_apart}
 use Rattle.decider.proofs.ClashValues.{get_or-times, met_is_no_clash}
-use Rattle.decider.proofs.CitedGains.{gain_against, rows_length, leasts_nonneg, coefficients_opposed, tried_coefficient, total_at, cited_coefficients, length-total, cited_sum-times}
+use Rattle.decider.proofs.CitedGains.{gain_against, rows_length, leasts_nonneg, coefficients_opposed, tried_coefficient, sum_of_cites-is, cited_coefficients, cited_sum-times}
 
 one_row : (side : Side) → rows_for (against side) ≡ 1
 one_row Left = refl
@@ -114,7 +114,7 @@ module _ (levels : List ℕ) (answers : List Answer) (pair : Pair) (side : Side)
   own_len : length combination.increments ≡ increments levels
   own_len = sym (length-times d combination.increments) ∙ sym (ap length c.combines.increments) ∙ c.clashes.len
 
-  scale : HasScale combination
+  scale : HasPositiveScale combination
   scale = positive_factor d combination.scale tried.weight c.combines.positive (at_least_one tried.weight (c.clashes.weights.each (length clash.rows - 1) no_weight last).positive) c.combines.scale
     where
       at_least_one : (a : ℤ) → pos 0 <ℤ a → pos 1 ≤ℤ a
@@ -123,7 +123,7 @@ module _ (levels : List ℕ) (answers : List Answer) (pair : Pair) (side : Side)
   own_at : (j : ℕ) → get_or clash.increments j (pos 0) ≡ d *ℤ get_or combination.increments j (pos 0)
   own_at j = ap (λ (l : List ℤ). get_or l j (pos 0)) c.combines.increments ∙ get_or-times d combination.increments j
 
-  own : HasOwnWeights combination
+  own : HasNonnegativeIncrements combination
   own = All-from_get_or (λ weight. pos 0 ≤ℤ weight) combination.increments (pos 0) (λ k lt.
       nonneg_factor d (get_or combination.increments k (pos 0)) (get_or clash.increments k (pos 0)) c.combines.positive (c.clashes.own k (pos 0) (omega (arith, own_len, c.clashes.len))) (own_at k))
 
@@ -192,24 +192,23 @@ module _ (levels : List ℕ) (answers : List Answer) (pair : Pair) (side : Side)
           other a b x h = omega (arith, sums)
 
   sums_hold : HasSums levels answers combination pair side
-  sums_hold =
-      ext_get_or (pos 0) (times combination.scale (gain levels pair side)) (total levels answers combination.increments combination.answers)
-      (len ∙ sym (length-total levels answers combination.increments combination.answers own_len c.fit cited))
-      (λ j lt. get_or-times combination.scale (gain levels pair side) j ∙ sum_at j (omega (arith, len))
-      ∙ sym (total_at levels answers combination.increments combination.answers j (λ number. of j (first_row answers number))
-      (cited_coefficients levels answers (rows_of levels pair (against side)) j combination.answers cited)))
+  sums_hold j lt =
+      sum_at j lt
+      ∙ flip (get_or combination.increments j (pos 0)) (cited_sum (λ number. of j (first_row answers number)) combination.answers)
+      ∙ ap (λ (s : ℤ). s +ℤ get_or combination.increments j (pos 0))
+      (sym (sum_of_cites-is levels answers combination.answers j (λ number. of j (first_row answers number)) (cited_coefficients levels answers (rows_of levels pair (against side)) j combination.answers cited)))
     where
-      len : length (times combination.scale (gain levels pair side)) ≡ increments levels
-      len = length-times combination.scale (gain levels pair side) ∙ length-gain levels pair side c.pair_fits
+      flip : (a b : ℤ) → a +ℤ b ≡ b +ℤ a
+      flip a b = omega (arith, sums)
 
-  proves_with : (p : Pair) (s : Side) → gain levels p s ≡ gain levels pair side → Suits s (HasStrict answers combination) → Proves levels answers combination p s
+  proves_with : (p : Pair) (s : Side) → gain levels p s ≡ gain levels pair side → IsStrictEnough answers combination s → Proves levels answers combination p s
   proves_with p s same strict = record {
     len = own_len;
     scale = scale;
     own = own;
     cited = cited;
     weights = weights;
-    sums = ap (times combination.scale) same ∙ sums_hold;
+    sums = λ j lt. ap (λ row. combination.scale *ℤ get_or row j (pos 0)) same ∙ sums_hold j lt;
     strict = strict;
   }
 

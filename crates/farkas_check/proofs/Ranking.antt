@@ -16,9 +16,10 @@ use Rattle.criteria_model.specs.Worth.{IsValueVector}
 use Rattle.criteria_model.specs.Answers.{Meets, gain}
 use Rattle.farkas_check.specs.declared.cites.Cite.{Cite}
 use Rattle.farkas_check.specs.declared.combination.Combination.{Combination}
-use Rattle.farkas_check.specs.Sums.{cited_side, cited_gain, total}
+use Rattle.farkas_check.specs.Sums.{cited_side, cited_gain}
 use Rattle.farkas_check.specs.Proof.{MayWeigh, IsStrict, HasStrict, Proves}
 use Rattle.farkas_check.specs.Laws.{ProvedIsRanked}
+use Rattle.farkas_check.proofs.SumLemmas.{total, dot_of_sums}
 use Rattle.row_laws.proofs.Signs.{mul_nonneg, mul_positive, positive_from_multiple, zero_from_multiple}
 use Rattle.row_laws.proofs.ListLemmas.{Any-cases, Any-here, Any-there}
 use Rattle.row_laws.proofs.RowLemmas.{dot-plus, dot-times}
@@ -164,7 +165,7 @@ module _ (levels : List ℕ) (answers : List Answer) (c : Combination) (v : List
   }
 
   multiple : (pair : Pair) (side : Side) → Proves levels answers c pair side → c.scale *ℤ dot v (gain levels pair side) ≡ dot v (total levels answers c.increments c.answers)
-  multiple pair side proof = sym (dot-times c.scale v (gain levels pair side)) ∙ ap (dot v) proof.sums
+  multiple pair side proof = dot_of_sums levels answers c pair side v vector.len proof.sums
 
   total_positive : (pair : Pair) (side : Side) → Proves levels answers c pair side → HasStrict answers c → pos 1 ≤ℤ dot v (total levels answers c.increments c.answers)
   total_positive pair side proof strict =

@@ -1,17 +1,49 @@
 -- The sums of the first cites and of the first criteria, and how large they grow.
-use Rattle.std.proofs.Common.{◌≡◌, ℕ, ◌+◌, ◌-◌, ◌*◌, ◌^◌, ◌<◌, ◌≤◌, List, [], ◌++◌, length, take, drop, drop-drop, get_or, All, ℤ, ◌*ℤ◌, unsigned_abs, Some, slice_get, refl, ap, ap₂, sym, ◌∙◌, arith}
+use Rattle.std.proofs.Common.{◌≡◌, ℕ, ◌+◌, ◌-◌, ◌*◌, ◌^◌, ◌<◌, ◌≤◌, List, [], ◌∷◌, ◌++◌, fold, ◌+ℤ◌, length, take, drop, drop-drop, get_or, All, ℤ, ◌*ℤ◌, unsigned_abs, Some, slice_get, refl, ap, ap₂, sym, ◌∙◌, arith}
 use Rattle.std.specs.Option.{option_map_or}
 use Rattle.std.proofs.lemmas.List.Elements.{All-take, All-drop}
 use Rattle.std.proofs.lemmas.List.Sums.{fold_more, sum_by_more, sum_by_more_le}
 use Rattle.std.proofs.lemmas.List.{length-take, length-drop, map-append}
 use Rattle.criteria_model.specs.declared.pairs.Answer.{Answer}
-use Rattle.row_laws.specs.Rows.{plus, minus, times}
+use Rattle.criteria_model.specs.declared.pairs.Pair.{Pair}
+use Rattle.criteria_model.specs.declared.pairs.Side.{Side}
+use Rattle.row_laws.specs.Rows.{entry, dot, plus, minus, times}
 use Rattle.criteria_model.specs.Worth.{increments, has, has_on}
 use Rattle.criteria_model.specs.Answers.{gain}
-use Rattle.row_laws.proofs.RowLemmas.{length-plus, length-minus, length-times, drop-plus, plus-append_after, plus-times_small}
+use Rattle.row_laws.proofs.RowLemmas.{entry-plus, entry-times, dot-times, length-plus, length-minus, length-times, drop-plus, plus-append_after, plus-times_small}
 use Rattle.criteria_model.proofs.LevelLemmas.{length-has_on, length-minus-has, minus-has-take_more, has_on-by}
 use Rattle.farkas_check.specs.declared.cites.Cite.{Cite}
-use Rattle.farkas_check.specs.Sums.{cited_gain, total}
+use Rattle.farkas_check.specs.declared.combination.Combination.{Combination}
+use Rattle.farkas_check.specs.Proof.{HasSums}
+use Rattle.row_laws.proofs.Integers.{sums}
+use Rattle.row_laws.proofs.Totals.{dot-same}
+use Rattle.farkas_check.specs.Sums.{cited_gain, sum_of_cites}
+
+-- ---- the sums as a row
+-- the row of the increments' own weights, to which each cite adds weight times what its answer gains
+abbrev pub total : List ℕ → List Answer → List ℤ → List Cite → List ℤ
+total levels answers own cites = fold (λ sums cite. plus sums (times cite.weight (cited_gain levels answers cite))) own cites
+
+pub entry-total : (levels : List ℕ) (answers : List Answer) (own : List ℤ) (cites : List Cite) (place : ℕ)
+    → entry (total levels answers own cites) place ≡ sum_of_cites levels answers cites place +ℤ entry own place
+entry-total levels answers own [] place = omega (arith, sums)
+entry-total levels answers own (cite ∷ cites) place =
+    let row = cited_gain levels answers cite in
+    omega (
+      arith,
+      sums,
+      entry-total levels answers (plus own (times cite.weight row)) cites place,
+      entry-plus own (times cite.weight row) place,
+      entry-times cite.weight row place,
+    )
+
+-- a proof's sums, as one equation of products with the values of the increments
+pub dot_of_sums : (levels : List ℕ) (answers : List Answer) (c : Combination) (pair : Pair) (side : Side) (v : List ℤ) → length v ≡ increments levels → HasSums levels answers c pair side
+    → c.scale *ℤ dot v (gain levels pair side) ≡ dot v (total levels answers c.increments c.answers)
+dot_of_sums levels answers c pair side v len has_sums =
+    sym (dot-times c.scale v (gain levels pair side))
+    ∙ dot-same v (times c.scale (gain levels pair side)) (total levels answers c.increments c.answers)
+    (λ place l. entry-times c.scale (gain levels pair side) place ∙ has_sums place (omega (arith, len)) ∙ sym (entry-total levels answers c.increments c.answers place))
 
 -- ---- the totals of the first cites
 -- the sums are the totals of the first i cites, and no larger than those can be

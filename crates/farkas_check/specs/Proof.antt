@@ -1,16 +1,16 @@
 -- When a combination of answers proves a verdict on a pair: the easy half of Motzkin's transposition theorem, for
 -- strict rows (the increments, which are positive, and the answers left and right) and equalities (the answers equal).
-use Rattle.std.specs.Prelude.{◌≡◌, ◌⊎◌, ℕ, ◌≤◌, List, length, All, Any, ℤ, pos, ◌<ℤ◌, ◌≤ℤ◌}
+use Rattle.std.specs.Prelude.{◌≡◌, ◌⊎◌, ℕ, ◌<◌, ◌≤◌, List, length, All, Any, ℤ, pos, ◌+ℤ◌, ◌*ℤ◌, ◌<ℤ◌, ◌≤ℤ◌}
 use Rattle.criteria_model.specs.declared.pairs.Pair.{Pair}
 use Rattle.criteria_model.specs.declared.pairs.Answer.{Answer}
 use Rattle.criteria_model.specs.declared.pairs.Side.{Side}
 use Rattle.criteria_model.specs.declared.pairs.Side.TheVariants.{Left, Right, Equal}
-use Rattle.row_laws.specs.Rows.{times}
+use Rattle.row_laws.specs.Rows.{entry}
 use Rattle.criteria_model.specs.Worth.{increments}
 use Rattle.criteria_model.specs.Answers.{gain}
 use Rattle.farkas_check.specs.declared.cites.Cite.{Cite}
 use Rattle.farkas_check.specs.declared.combination.Combination.{Combination}
-use Rattle.farkas_check.specs.Sums.{cited_side, total}
+use Rattle.farkas_check.specs.Sums.{cited_side, sum_of_cites}
 
 -- the weights that may stand on an answer: any where it is equal, at least 0 on the others
 abbrev pub MayWeigh : Side → ℤ → Type 0
@@ -30,19 +30,13 @@ HasStrict answers combination =
     Any (λ weight. pos 0 <ℤ weight) combination.increments
     ⊎ Any (λ cite. IsStrict (cited_side answers cite) cite.weight) combination.answers
 
--- what a verdict asks of that: left and right need it, equal rules it out
-abbrev pub Suits : Side → Type 0 → Type 0
-Suits Left strict = strict
-Suits Right strict = strict
-Suits Equal strict = ¬ strict
-
 -- the scale is at least 1
-abbrev pub HasScale : Combination → Type 0
-HasScale combination = pos 1 ≤ℤ combination.scale
+abbrev pub HasPositiveScale : Combination → Type 0
+HasPositiveScale combination = pos 1 ≤ℤ combination.scale
 
 -- each increment's own weight is at least 0
-abbrev pub HasOwnWeights : Combination → Type 0
-HasOwnWeights combination = All (λ weight. pos 0 ≤ℤ weight) combination.increments
+abbrev pub HasNonnegativeIncrements : Combination → Type 0
+HasNonnegativeIncrements combination = All (λ weight. pos 0 ≤ℤ weight) combination.increments
 
 -- the cited answer is there
 abbrev pub IsThere : List Answer → Cite → Type 0
@@ -56,20 +50,23 @@ HasCited answers combination = All (IsThere answers) combination.answers
 abbrev pub HasWeights : List Answer → Combination → Type 0
 HasWeights answers combination = All (λ cite. MayWeigh (cited_side answers cite) cite.weight) combination.answers
 
--- at each increment, scale times the verdict's gain is the total
+-- at each increment, scale times what the verdict's winner has more is the sum of the cites and the increment's own weight
 abbrev pub HasSums : List ℕ → List Answer → Combination → Pair → Side → Type 0
 HasSums levels answers combination pair side =
-    times combination.scale (gain levels pair side) ≡ total levels answers combination.increments combination.answers
+    (place : ℕ) → place < increments levels
+    → combination.scale *ℤ entry (gain levels pair side) place ≡ sum_of_cites levels answers combination.answers place +ℤ entry combination.increments place
 
--- there is a strict weight where the verdict needs one, and none where it is equal
+-- something strict has a positive weight where the verdict is left or right, and nothing has where it is equal
 abbrev pub IsStrictEnough : List Answer → Combination → Side → Type 0
-IsStrictEnough answers combination side = Suits side (HasStrict answers combination)
+IsStrictEnough answers combination Left = HasStrict answers combination
+IsStrictEnough answers combination Right = HasStrict answers combination
+IsStrictEnough answers combination Equal = ¬ HasStrict answers combination
 
 -- the combination proves that the answers rank the pair so
 pub record Proves (levels : List ℕ) (answers : List Answer) (combination : Combination) (pair : Pair) (side : Side) : Type 0 where
   pub len : length combination.increments ≡ increments levels
-  pub scale : HasScale combination
-  pub own : HasOwnWeights combination
+  pub scale : HasPositiveScale combination
+  pub own : HasNonnegativeIncrements combination
   pub cited : HasCited answers combination
   pub weights : HasWeights answers combination
   pub sums : HasSums levels answers combination pair side

@@ -1,10 +1,10 @@
--- What a combination sums to.
-use Rattle.std.specs.Prelude.{ℕ, ◌-◌, List, [], fold, slice_get, ℤ}
+-- What the cites of a combination sum to.
+use Rattle.std.specs.Prelude.{ℕ, ◌-◌, List, [], ◌∷◌, slice_get, ℤ, pos, ◌+ℤ◌, ◌*ℤ◌}
 use Rattle.std.specs.Option.{option_map_or}
 use Rattle.criteria_model.specs.declared.pairs.Answer.{Answer}
 use Rattle.criteria_model.specs.declared.pairs.Side.{Side}
 use Rattle.criteria_model.specs.declared.pairs.Side.TheVariants.{Equal}
-use Rattle.row_laws.specs.Rows.{plus, times}
+use Rattle.row_laws.specs.Rows.{entry}
 use Rattle.criteria_model.specs.Answers.{gain}
 use Rattle.farkas_check.specs.declared.cites.Cite.{Cite}
 
@@ -16,6 +16,8 @@ cited_side answers cite = option_map_or (λ answer. answer.side) (slice_get answ
 abbrev pub cited_gain : List ℕ → List Answer → Cite → List ℤ
 cited_gain levels answers cite = option_map_or (λ answer. gain levels answer.pair answer.side) (slice_get answers (cite.answer - 1)) []
 
--- for each increment, its own weight and the sum, over the cites, of weight times gain
-abbrev pub total : List ℕ → List Answer → List ℤ → List Cite → List ℤ
-total levels answers own cites = fold (λ sums cite. plus sums (times cite.weight (cited_gain levels answers cite))) own cites
+-- at an increment, by its place: the sum, over the cites, of weight times what the winner of the cited answer has more
+abbrev pub sum_of_cites : List ℕ → List Answer → List Cite → ℕ → ℤ
+sum_of_cites levels answers [] place = pos 0
+sum_of_cites levels answers (cite ∷ cites) place =
+    cite.weight *ℤ entry (cited_gain levels answers cite) place +ℤ sum_of_cites levels answers cites place

@@ -2,7 +2,7 @@
 ghost use Rattle.std.specs.Prelude.{◌≡◌, ◌↔◌, ◌≤◌, length, All, IsTrue, pos, ◌≤ℤ◌};
 ghost use Rattle.criteria_model.specs.declared.pairs.Side.TheVariants.{Left, Right, Equal};
 ghost use Rattle.farkas_check.specs.Sums.{cited_side};
-ghost use Rattle.farkas_check.specs.Proof.{MayWeigh, IsStrict, IsThere, HasOwnWeights, HasCited, HasWeights, HasStrict, IsStrictEnough};
+ghost use Rattle.farkas_check.specs.Proof.{MayWeigh, IsStrict, IsThere, HasNonnegativeIncrements, HasCited, HasWeights, HasStrict, IsStrictEnough};
 
 use crate::cites::{Cite, Cites};
 use crate::combination::Combination;
@@ -10,8 +10,8 @@ use answer_rows::{Answer, Answers};
 use criteria_model::{Side, Vector};
 
 /// Whether no increment has a negative weight.
-pub fn has_own_weights(combination: &Combination) -> bool
-    ensures { IsTrue result ↔ HasOwnWeights combination.now }
+pub fn has_nonnegative_increments(combination: &Combination) -> bool
+    ensures { IsTrue result ↔ HasNonnegativeIncrements combination.now }
 {
     let weights = combination.increments.as_slice();
     weights.iter().all(|weight| *weight >= 0)

@@ -6,7 +6,7 @@ ghost use Rattle.farkas_check.specs.Proof.{Proves};
 
 use crate::combination::Combination;
 use crate::flaws::Flaw;
-use crate::parts::{has_cited, has_own_weights, has_weights, is_strict_enough};
+use crate::parts::{has_cited, has_nonnegative_increments, has_weights, is_strict_enough};
 use crate::sums::has_sums;
 use answer_rows::Answers;
 use criteria_model::{CERTIFICATE_BOUND, Model, Pair, Side};
@@ -30,7 +30,7 @@ pub fn flaw(
     if combination.scale < 1 {
         return Some(Flaw::Scale);
     }
-    if !has_own_weights(combination) {
+    if !has_nonnegative_increments(combination) {
         return Some(Flaw::Increment);
     }
     if !has_cited(listed, combination) {

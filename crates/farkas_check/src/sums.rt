@@ -1,11 +1,11 @@
 //! What a combination sums to at each increment.
-ghost use Rattle.std.specs.Prelude.{◌≡◌, ◌↔◌, ◌+◌, ◌^◌, ◌<◌, ◌≤◌, length, All, IsTrue, unsigned_abs, ◌-ℤ◌, ◌*ℤ◌};
-ghost use Rattle.row_laws.specs.Rows.{plus, minus, times};
+ghost use Rattle.std.specs.Prelude.{◌≡◌, ◌↔◌, ℕ, ◌+◌, ◌^◌, ◌<◌, ◌≤◌, length, All, IsTrue, unsigned_abs, ◌+ℤ◌, ◌-ℤ◌, ◌*ℤ◌};
+ghost use Rattle.row_laws.specs.Rows.{entry, plus, minus, times};
 ghost use Rattle.criteria_model.specs.Worth.{increments, has, has_on, lies_above};
 ghost use Rattle.criteria_model.specs.Criteria.{IsModel};
 ghost use Rattle.criteria_model.specs.Pairs.{IsFit};
 ghost use Rattle.criteria_model.specs.Answers.{gain};
-ghost use Rattle.farkas_check.specs.Sums.{total};
+ghost use Rattle.farkas_check.specs.Sums.{sum_of_cites};
 ghost use Rattle.farkas_check.specs.Cited.{AreCites};
 ghost use Rattle.farkas_check.specs.Proof.{HasCited, HasSums, IsThere};
 
@@ -14,7 +14,7 @@ use crate::combination::Combination;
 use answer_rows::{Answer, Answers};
 use criteria_model::{CERTIFICATE_BOUND, MAX_INCREMENTS, Model, Pair, Side};
 
-/// Whether scale times the verdict's gain is the total, at each increment.
+/// Whether scale times the verdict's gain is the sum of the cites and the own weight, at each increment.
 pub fn has_sums(
     model: &Model,
     answers: &Answers,
@@ -52,7 +52,7 @@ fn add_cites(sums: &mut [i128], model: &Model, answers: &[Answer], cites: &[Cite
     requires cites { AreCites cites.now }
     requires there { All (IsThere answers.now) cites.now }
     requires answers_fit { All (λ answer. IsFit model.now.levels answer.pair) answers.now }
-    ensures { sums.new ≡ total model.now.levels answers.now sums.old cites.now }
+    ensures { (place : ℕ) → entry sums.new place ≡ sum_of_cites model.now.levels answers.now cites.now place +ℤ entry sums.old place }
 {
     for cite in cites {
         let answer = &answers[cite.answer as usize - 1];
@@ -131,7 +131,7 @@ fn is_multiple(scale: i128, row: &[i8], sums: &[i128]) -> bool
     requires len { length row.now ≡ length sums.now }
     requires scale { unsigned_abs scale < CERTIFICATE_BOUND }
     requires row { All (λ x. unsigned_abs x ≤ 1) row.now }
-    ensures { IsTrue result ↔ (times scale row.now ≡ sums.now) }
+    ensures { IsTrue result ↔ ((place : ℕ) → place < length row.now → scale *ℤ entry row.now place ≡ entry sums.now place) }
 {
     for (place, x) in row.iter().enumerate() {
         if scale * i128::from(*x) != sums[place] {

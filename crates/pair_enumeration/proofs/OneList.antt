@@ -1,10 +1,12 @@
--- The class list of a model is one.
+-- A model has one class list.
 use Rattle.std.proofs.Common.{◌≡◌, ◌⊎◌, inl, inr, zero, suc, List, [], ◌∷◌, AllPairs, Contains, refl, ap₂, sym, ◌∙◌, subst, arith}
 use Rattle.criteria_model.specs.declared.pairs.Pair.{Pair}
 use Rattle.criteria_model.specs.Criteria.{Criteria}
-use Rattle.criteria_model.specs.Classes.{IsClass, ComesBefore}
-use Rattle.pair_enumeration.specs.Listed.{Listed}
-use Rattle.pair_enumeration.specs.Laws.{OneClassList}
+use Rattle.criteria_model.specs.Classes.{ComesBefore, IsClassList}
+use Rattle.pair_enumeration.specs.Listed.{Listed, IsListed}
+use Rattle.pair_enumeration.specs.Walks.{listed_classes}
+use Rattle.pair_enumeration.specs.Laws.{EachModelHasList, OneClassList}
+use Rattle.pair_enumeration.proofs.ListLemmas.{listed_is_list}
 use Rattle.pair_enumeration.proofs.SearchLemmas.{before_not_after, not_before_itself}
 
 -- the first, or one of the others
@@ -38,7 +40,7 @@ same_first p ps q qs ordered other_ordered h k =
       ]
     ]
 
--- what stands behind the first is not the first
+-- what stands after the first is not the first
 stays_later : (p : Pair) (ps : List Pair) (q : Pair) (qs : List Pair) (x : Pair) → AllPairs ComesBefore (p ∷ ps) → p ≡ q
     → Contains ps x → Contains (q ∷ qs) x → Contains qs x
 stays_later p ps q qs x ordered same later h =
@@ -61,9 +63,16 @@ same_list (p ∷ ps) (q ∷ qs) ordered other_ordered f g =
     (λ x h. stays_later q qs p ps x other_ordered (sym same) h (g x (has_later q qs x h))))
 
 pub one_class_list_lem : OneClassList
-one_class_list_lem one other h k same =
-    let classes : one.classes ≡ other.classes =
-    same_list one.classes other.classes h.list.ordered k.list.ordered
-    (λ x has. (k.list.members x).1 (subst (λ (c : Criteria). IsClass c x) same ((h.list.members x).0 has)))
-    (λ x has. (h.list.members x).1 (subst (λ (c : Criteria). IsClass c x) (sym same) ((k.list.members x).0 has))) in
-    ap₂ (λ (c : Criteria) (l : List Pair). let listed : Listed = record { criteria = c; classes = l } in listed) same classes
+one_class_list_lem criteria one other h k =
+    same_list one other h.ordered k.ordered (λ x has. (k.members x).1 ((h.members x).0 has)) (λ x has. (h.members x).1 ((k.members x).0 has))
+
+-- so what contracts see of two lists of one model is equal
+pub one_listed : (one other : Listed) → IsListed one → IsListed other → one.criteria ≡ other.criteria → one ≡ other
+one_listed one other h k same =
+    let moved : IsClassList other.criteria one.classes = subst (λ (c : Criteria). IsClassList c one.classes) same h.list in
+    ap₂ (λ (c : Criteria) (l : List Pair). let listed : Listed = record { criteria = c; classes = l } in listed) same
+    (one_class_list_lem other.criteria one.classes other.classes moved k.list)
+
+pub each_model_has_list_lem : EachModelHasList
+each_model_has_list_lem criteria model =
+    let listed = listed_is_list criteria model in (listed_classes criteria.levels criteria.degree, listed.list, listed.len)

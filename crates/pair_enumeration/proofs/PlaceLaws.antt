@@ -1,12 +1,12 @@
 -- Two alternatives that need a question have one place and one flip.
-use Rattle.std.proofs.Common.{◌≡◌, inl, inr, ℕ, List, Option, Some, None, IsSome, refl, ap₂, sym, subst, true≢false}
+use Rattle.std.proofs.Common.{◌≡◌, inl, inr, ℕ, List, Option, Some, None, IsSome, refl, ap, ap₂, sym, ◌∙◌, subst, true≢false}
 use Rattle.criteria_model.specs.declared.pairs.Pair.{Pair}
 use Rattle.criteria_model.specs.Classes.{IsClass}
 use Rattle.criteria_model.specs.Pairs.{AreReplicas}
 use Rattle.pair_enumeration.specs.declared.flips.Flip.{Flip}
 use Rattle.pair_enumeration.specs.declared.flips.Flip.TheVariants.{Kept, Turned}
 use Rattle.pair_enumeration.specs.Listed.{Listed, IsListed}
-use Rattle.pair_enumeration.specs.Places.{flipped, NeedsQuestion, StandsAt, IsPlaceOf, EachPairHasPlace, EachPairHasOnePlace}
+use Rattle.pair_enumeration.specs.Places.{flipped, NeedsQuestion, class_at, IsPlaceOf, EachPairHasPlace, EachPairHasOnePlace}
 use Rattle.pair_enumeration.proofs.SearchLemmas.{stands_once, stands_contains, contains_stands}
 use Rattle.pair_enumeration.proofs.PlaceLemmas.{AreAlternatives, written_pair, exchanged, class_of_two, not_both_classes, class_needs_question, question_turned, written_replica, replica_is_written}
 
@@ -19,7 +19,7 @@ flipped_replica : (listed : Listed) (a b : List ℕ) (flip : Flip) → AreAltern
 flipped_replica listed a b Kept h = written_replica listed.criteria.levels a b h
 flipped_replica listed a b Turned h = written_replica listed.criteria.levels b a (exchanged listed.criteria.levels a b h)
 
-pub is_place_of : (listed : Listed) (a b : List ℕ) (place : ℕ) (flip : Flip) → AreAlternatives listed.criteria.levels a b → StandsAt listed.classes place (flipped_pair flip a b) → IsPlaceOf listed a b place flip
+pub is_place_of : (listed : Listed) (a b : List ℕ) (place : ℕ) (flip : Flip) → AreAlternatives listed.criteria.levels a b → class_at listed.classes place ≡ Some (flipped_pair flip a b) → IsPlaceOf listed a b place flip
 is_place_of listed a b place flip h s = record { pair = flipped_pair flip a b; stands = s; replica = flipped_replica listed a b flip h }
 
 flipped_question : (listed : Listed) (a b : List ℕ) (flip : Flip) → AreAlternatives listed.criteria.levels a b → IsClass listed.criteria (flipped_pair flip a b) → NeedsQuestion listed.criteria a b
@@ -38,11 +38,11 @@ replica_pair listed a b Kept pair h c r = replica_is_written listed.criteria a b
 replica_pair listed a b Turned pair h c r = replica_is_written listed.criteria b a pair (exchanged listed.criteria.levels a b h) c r
 
 pub place_stands : (listed : Listed) (a b : List ℕ) (place : ℕ) (flip : Flip) → IsListed listed → AreAlternatives listed.criteria.levels a b → IsPlaceOf listed a b place flip
-    → IsClass listed.criteria (flipped_pair flip a b) × StandsAt listed.classes place (flipped_pair flip a b)
+    → IsClass listed.criteria (flipped_pair flip a b) × (class_at listed.classes place ≡ Some (flipped_pair flip a b))
 place_stands listed a b place flip l h p =
     let c = (l.list.members p.pair).0 (stands_contains listed.classes place p.pair p.stands) in
     let e = replica_pair listed a b flip p.pair h c p.replica in
-    (subst (IsClass listed.criteria) e c, subst (StandsAt listed.classes place) e p.stands)
+    (subst (IsClass listed.criteria) e c, p.stands ∙ ap Some e)
 
 same_flip : (listed : Listed) (a b : List ℕ) (flip other : Flip) → IsClass listed.criteria (flipped_pair flip a b) → IsClass listed.criteria (flipped_pair other a b) → flip ≡ other
 same_flip listed a b Kept Kept c d = refl
@@ -56,7 +56,7 @@ one_place listed a b place other_place flip other_flip l h p q =
     let x = place_stands listed a b place flip l h p in
     let y = place_stands listed a b other_place other_flip l h q in
     let f = same_flip listed a b flip other_flip x.0 y.0 in
-    (stands_once listed.classes place other_place (flipped_pair other_flip a b) l.list.ordered (subst (λ g. StandsAt listed.classes place (flipped_pair g a b)) f x.1) y.1, f)
+    (stands_once listed.classes place other_place (flipped_pair other_flip a b) l.list.ordered (x.1 ∙ ap (λ g. Some (flipped_pair g a b)) f) y.1, f)
 
 pub only_place : (listed : Listed) (a b : List ℕ) (place other_place : ℕ) (flip other_flip : Flip) → IsListed listed → AreAlternatives listed.criteria.levels a b
     → IsPlaceOf listed a b place flip → IsPlaceOf listed a b other_place other_flip → ◌≡◌ {A = Option (ℕ × Flip)} (Some (place, flip)) (Some (other_place, other_flip))

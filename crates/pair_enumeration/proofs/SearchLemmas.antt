@@ -5,8 +5,9 @@ use Rattle.std.specs.Cmp.{nat_cmp_is}
 use Rattle.std.specs.Cmp.Lexicographic.{slice_cmp, nat_list_cmp_total}
 use Rattle.criteria_model.specs.declared.pairs.Pair.{Pair}
 use Rattle.criteria_model.specs.Classes.{order_level, order_key, ComesBefore}
-use Rattle.std.proofs.lemmas.Option.{slice_get-get_or, get_or_from_slice_get}
-use Rattle.pair_enumeration.specs.Places.{StandsAt}
+use Rattle.std.proofs.lemmas.Option.{slice_get-get_or, slice_get_within, get_or_from_slice_get}
+use Rattle.row_laws.proofs.ItemLemmas.{item_of, item_positive, item_found}
+use Rattle.pair_enumeration.specs.Places.{class_at}
 use Rattle.pair_enumeration.specs.Walks.{codes}
 use Rattle.pair_enumeration.proofs.TailOrder.{cmp_less, cmp_same}
 
@@ -115,10 +116,10 @@ pub undecided : (x y : ℕ) (rest : Ordering) → x ≡ y → ordering_then (nat
 undecided x y rest e = ap (λ k. ordering_then (nat_cmp x k) rest) (sym e) ∙ ap (λ o. ordering_then o rest) (cmp_same x)
 
 -- ---- what the search found
-pub found_at : (pairs : List Pair) (pair : Pair) (low : ℕ) → low < length pairs → get_or pairs low pair ≡ pair → StandsAt pairs (low + 1) pair
+pub found_at : (pairs : List Pair) (pair : Pair) (low : ℕ) → low < length pairs → get_or pairs low pair ≡ pair → class_at pairs (low + 1) ≡ Some pair
 found_at pairs pair low l e =
     let k : low + 1 - 1 ≡ low = omega arith in
-    record { positive = omega arith; found = ap (slice_get pairs) k ∙ slice_get-get_or pairs low pair l ∙ ap Some e }
+    item_of pairs (low + 1) pair (omega arith) (ap (slice_get pairs) k ∙ slice_get-get_or pairs low pair l ∙ ap Some e)
 
 pub nowhere : (pairs : List Pair) (pair : Pair) (low high : ℕ) → IsNotOutside pairs pair low high → high ≤ low → (low < length pairs → get_or pairs low pair ≢ pair) → ¬ Contains pairs pair
 nowhere pairs pair low high h l n (k, m, e) = elim (eq_lt_gt k low) [
@@ -129,7 +130,7 @@ nowhere pairs pair low high h l n (k, m, e) = elim (eq_lt_gt k low) [
   ]
 ]
 
--- a pair stands at one place alone
+-- a pair stands at one place only
 same_place : (pairs : List Pair) (i j : ℕ) (pair : Pair) → AllPairs ComesBefore pairs → i < length pairs → j < length pairs → get_or pairs i pair ≡ pair → get_or pairs j pair ≡ pair → i ≡ j
 same_place pairs i j pair ordered a b e f = elim (eq_lt_gt i j) [
   | inl less ↦ absurd (not_before_itself pair (subst₂ ComesBefore e f (ordered i j pair less b)))
@@ -139,23 +140,20 @@ same_place pairs i j pair ordered a b e f = elim (eq_lt_gt i j) [
   ]
 ]
 
-within : (pairs : List Pair) (k : ℕ) (pair : Pair) → slice_get pairs k ≡ Some pair → k < length pairs
-within [] k pair e = absurd cc
-within (p ∷ pairs) zero pair e = omega arith
-within (p ∷ pairs) (suc k) pair e = omega (arith, within pairs k pair e)
+-- the place before is within the list, and the pair stands there
+at_place : (pairs : List Pair) (i : ℕ) (pair : Pair) → class_at pairs i ≡ Some pair → (1 ≤ i) × (i - 1 < length pairs) × (get_or pairs (i - 1) pair ≡ pair)
+at_place pairs i pair at =
+    let found = item_found pairs i pair at in
+    (item_positive pairs i pair at, slice_get_within pairs (i - 1) pair found, get_or_from_slice_get pairs (i - 1) pair pair found)
 
-pub stands_once : (pairs : List Pair) (i j : ℕ) (pair : Pair) → AllPairs ComesBefore pairs → StandsAt pairs i pair → StandsAt pairs j pair → i ≡ j
-stands_once pairs i j pair ordered s t =
-    omega (
-      arith,
-      s.positive,
-      t.positive,
-      same_place pairs (i - 1) (j - 1) pair ordered (within pairs (i - 1) pair s.found) (within pairs (j - 1) pair t.found)
-          (get_or_from_slice_get pairs (i - 1) pair pair s.found) (get_or_from_slice_get pairs (j - 1) pair pair t.found),
-    )
+pub stands_once : (pairs : List Pair) (i j : ℕ) (pair : Pair) → AllPairs ComesBefore pairs → class_at pairs i ≡ Some pair → class_at pairs j ≡ Some pair → i ≡ j
+stands_once pairs i j pair ordered at other_at =
+    let a = at_place pairs i pair at in
+    let b = at_place pairs j pair other_at in
+    omega (arith, a.0, b.0, same_place pairs (i - 1) (j - 1) pair ordered a.1 b.1 a.2 b.2)
 
-pub stands_contains : (pairs : List Pair) (i : ℕ) (pair : Pair) → StandsAt pairs i pair → Contains pairs pair
-stands_contains pairs i pair s = (i - 1, within pairs (i - 1) pair s.found, get_or_from_slice_get pairs (i - 1) pair pair s.found)
+pub stands_contains : (pairs : List Pair) (i : ℕ) (pair : Pair) → class_at pairs i ≡ Some pair → Contains pairs pair
+stands_contains pairs i pair at = let a = at_place pairs i pair at in (i - 1, a.1, a.2)
 
-pub contains_stands : (pairs : List Pair) (pair : Pair) → Contains pairs pair → (place : ℕ) × StandsAt pairs place pair
+pub contains_stands : (pairs : List Pair) (pair : Pair) → Contains pairs pair → (place : ℕ) × (class_at pairs place ≡ Some pair)
 contains_stands pairs pair (k, l, e) = (k + 1, found_at pairs pair k l e)

@@ -1,5 +1,6 @@
 -- The place of the class of two alternatives.
-use Rattle.std.specs.Prelude.{◌≡◌, ℕ, ◌-◌, ◌≤◌, List, [], ◌∷◌, Some, slice_get, ◌==◌, if◌then◌else◌}
+use Rattle.std.specs.Prelude.{◌≡◌, ℕ, ◌≤◌, List, [], ◌∷◌, Option, Some, ◌==◌, if◌then◌else◌}
+use Rattle.row_laws.specs.Items.{item_at}
 use Rattle.criteria_model.specs.declared.pairs.Pair.{Pair}
 use Rattle.criteria_model.specs.Alternatives.{IsAlternative, IsUndominated, degree}
 use Rattle.criteria_model.specs.Criteria.{Criteria}
@@ -18,15 +19,14 @@ pub record NeedsQuestion (criteria : Criteria) (a b : List ℕ) : Type 0 where
   pub undominated : IsUndominated a b
   pub within : degree a b ≤ criteria.degree
 
--- at this place of the list, counted from 1, stands the pair
-pub record StandsAt (classes : List Pair) (place : ℕ) (pair : Pair) : Type 0 where
-  pub positive : 1 ≤ place
-  pub found : slice_get classes (place - 1) ≡ Some pair
+-- the class at a place, counted from 1; there is none at place 0
+abbrev pub class_at : List Pair → ℕ → Option Pair
+class_at classes place = item_at classes place
 
 -- at this place of the list stands a class of which the two alternatives, so turned, are a replica
 pub record IsPlaceOf (listed : Listed) (a b : List ℕ) (place : ℕ) (flip : Flip) : Type 0 where
   pub pair : Pair
-  pub stands : StandsAt listed.classes place pair
+  pub stands : class_at listed.classes place ≡ Some pair
   pub replica : AreReplicas listed.criteria.levels pair (flipped flip a b)
 
 -- the first list's levels, and 0 where the two agree
@@ -41,7 +41,7 @@ EachPairHasPlace =
     (listed : Listed) (a b : List ℕ) → IsListed listed → IsAlternative listed.criteria.levels a → IsAlternative listed.criteria.levels b
     → NeedsQuestion listed.criteria a b → (place : ℕ) × (flip : Flip) × IsPlaceOf listed a b place flip
 
--- and they have one place and one flip alone
+-- and they have no other place or flip
 abbrev pub EachPairHasOnePlace : Type 0
 EachPairHasOnePlace =
     (listed : Listed) (a b : List ℕ) (place other_place : ℕ) (flip other_flip : Flip) → IsListed listed

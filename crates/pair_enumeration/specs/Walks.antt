@@ -6,6 +6,7 @@ use Rattle.std.specs.List.{range_with_len}
 use Rattle.std.specs.Ordering.{nat_cmp}
 use Rattle.std.specs.declared.cmp.Ordering.TheVariants.{Less}
 use Rattle.std.specs.Cmp.Lexicographic.{slice_cmp}
+use Rattle.criteria_model.specs.declared.limits.TheConstants.{MAX_INCREMENTS, MAX_LEVEL}
 use Rattle.criteria_model.specs.declared.pairs.Pair.{Pair}
 use Rattle.criteria_model.specs.Classes.{order_level}
 use Rattle.pair_enumeration.specs.declared.walks.Stage.{Stage}
@@ -61,11 +62,11 @@ joined left right tail = record { left = left ++ map (λ p. p.0) tail; right = r
 -- a walk within these criteria, with levels that a pair can hold
 pub record IsWalk (counts : List ℕ) (walk : Walk) : Type 0 where
   pub some : 1 ≤ length counts
-  pub most : length counts ≤ 24
-  pub levels : All (λ n. n ≤ 25) counts
+  pub most : length counts ≤ MAX_INCREMENTS
+  pub levels : All (λ n. n ≤ MAX_LEVEL) counts
   pub place : walk.place ≤ length counts
-  pub left : All (λ n. n ≤ 25) (take walk.place walk.left)
-  pub right : All (λ n. n ≤ 25) (take walk.place walk.right)
+  pub left : All (λ n. n ≤ MAX_LEVEL) (take walk.place walk.left)
+  pub right : All (λ n. n ≤ MAX_LEVEL) (take walk.place walk.right)
 
 -- the pairs in which the walk goes on so
 abbrev pub pairs_from : Walk → List Tail → List Pair

@@ -1,4 +1,4 @@
-ghost use Rattle.std.specs.Prelude.{◌≡◌, ℕ, ◌↔◌, ◌-◌, ◌≤◌, length, IfOk, IsSome, IfSome, Some, slice_get};
+ghost use Rattle.std.specs.Prelude.{◌≡◌, ℕ, ◌↔◌, ◌≤◌, length, IfOk, IsSome, IfSome, Some};
 ghost use Rattle.criteria_model.specs.Alternatives.{IsAlternative};
 ghost use Rattle.criteria_model.specs.Classes.{IsClass};
 ghost use Rattle.pair_enumeration.specs.declared.flips.Flip.{Flip};
@@ -6,7 +6,7 @@ ghost use Rattle.pair_enumeration.specs.declared.flips.Flip.{Flip};
 use crate::flips::Flip;
 use crate::search::{cancelled_pair, place_among};
 use crate::walks::list_classes;
-use criteria_model::{Model, Pair, Tuple};
+use criteria_model::{MAX_INCREMENTS, Model, Pair, Tuple};
 use std::alloc::{AllocError as NoMemory, Global};
 
 /// All classes of a model, in order. Places count from 1.
@@ -29,7 +29,7 @@ impl std::marker::Model for Classes {
 
 impl Classes {
     ghost use Rattle.pair_enumeration.specs.Listed.{IsListed};
-    ghost use Rattle.pair_enumeration.specs.Places.{NeedsQuestion, StandsAt, IsPlaceOf};
+    ghost use Rattle.pair_enumeration.specs.Places.{NeedsQuestion, class_at, IsPlaceOf};
 
     /// All classes of the model.
     pub fn list(alloc: Global, model: &Model) -> Result<Classes, NoMemory>
@@ -69,7 +69,7 @@ impl Classes {
     pub fn class(&self, place: u32) -> Pair
         requires low { 1 ≤ place }
         requires high { place ≤ length self.now.classes }
-        ensures value { slice_get self.now.classes (place - 1) ≡ Some result }
+        ensures value { class_at self.now.classes place ≡ Some result }
         ensures class { IsClass self.now.criteria result }
     {
         self.pairs[place as usize - 1]
@@ -78,7 +78,7 @@ impl Classes {
     /// The place of a class, or none where the pair isn't a class of the model.
     pub fn place(&self, pair: &Pair) -> Option<u32>
         ensures some { IsSome result ↔ IsClass self.now.criteria pair.now }
-        ensures found { IfSome result (λ place. StandsAt self.now.classes place pair.now) }
+        ensures found { IfSome result (λ place. class_at self.now.classes place ≡ Some pair.now) }
         ensures listed { IsListed self.now }
     {
         if !self.model.fits(pair) {
@@ -110,7 +110,7 @@ fn level_counts(model: &Model) -> Tuple
     ensures { result ≡ model.now.levels }
 {
     let count = usize::from(model.criteria());
-    let mut counts = [0; 24];
+    let mut counts = [0; MAX_INCREMENTS];
     for place in 0..count {
         counts[place] = model.levels(place as u8 + 1);
     }

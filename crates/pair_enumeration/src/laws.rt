@@ -1,5 +1,5 @@
 //! Laws of the class list. Each function does nothing; its contract is the law.
-ghost use Rattle.pair_enumeration.specs.Laws.{OneClassList};
+ghost use Rattle.pair_enumeration.specs.Laws.{EachModelHasList, OneClassList};
 ghost use Rattle.pair_enumeration.specs.Places.{EachPairHasPlace, EachPairHasOnePlace};
 
 /// Two alternatives that need a question have a place and a flip in the class list.
@@ -7,12 +7,17 @@ pub fn each_pair_has_place()
     ensures { EachPairHasPlace }
 {}
 
-/// And they have one place and one flip alone.
+/// And they have no other place or flip.
 pub fn each_pair_has_one_place()
     ensures { EachPairHasOnePlace }
 {}
 
-/// A model has one class list alone.
+/// Each model has a class list, as long as its number of classes, whether or not there is memory for it.
+pub fn each_model_has_list()
+    ensures { EachModelHasList }
+{}
+
+/// Members and order leave a model one class list.
 pub fn one_class_list()
     ensures { OneClassList }
 {}

@@ -1,12 +1,12 @@
 // The search for a pair in the ordered list of classes.
-ghost use Rattle.std.specs.Prelude.{◌≡◌, ◌↔◌, ◌==◌, if◌then◌else◌, ◌<◌, ◌≤◌, ◌^◌, length, All, AllPairs, IsTrue, IfSome, IsSome, Contains, zip};
+ghost use Rattle.std.specs.Prelude.{◌≡◌, Some, ◌↔◌, ◌==◌, if◌then◌else◌, ◌<◌, ◌≤◌, ◌^◌, length, All, AllPairs, IsTrue, IfSome, IsSome, Contains, zip};
 ghost use Rattle.criteria_model.specs.declared.pairs.Pair.{Pair};
 ghost use Rattle.criteria_model.specs.Classes.{ComesBefore, order_level as order_level_of};
 ghost use Rattle.criteria_model.specs.Pairs.{IsFit};
-ghost use Rattle.pair_enumeration.specs.Places.{StandsAt, cancelled};
+ghost use Rattle.pair_enumeration.specs.Places.{class_at, cancelled};
 ghost use Rattle.pair_enumeration.specs.Walks.{Precedes};
 
-use criteria_model::{Model, Pair, Tuple};
+use criteria_model::{MAX_INCREMENTS, MAX_LEVEL, Model, Pair, Tuple};
 
 /// The place of the pair among these ordered pairs, counted from 1.
 pub(crate) fn place_among(model: &Model, pairs: &[Pair], pair: &Pair) -> Option<u32>
@@ -15,7 +15,7 @@ pub(crate) fn place_among(model: &Model, pairs: &[Pair], pair: &Pair) -> Option<
     requires pairs_fit { All (IsFit model.now.levels) pairs.now }
     requires ordered { AllPairs ComesBefore pairs.now }
     ensures some { IsSome result ↔ Contains pairs.now pair.now }
-    ensures found { IfSome result (λ place. StandsAt pairs.now place pair.now) }
+    ensures found { IfSome result (λ place. class_at pairs.now place ≡ Some pair.now) }
 {
     let mut low = 0;
     let mut high = pairs.len();
@@ -83,11 +83,11 @@ fn levels_before(left: &[u8], right: &[u8], other_left: &[u8], other_right: &[u8
     false
 }
 
-/// A level as the order reads it: a cancelled place counts as 25.
+/// A level as the order reads it: a cancelled place counts as the highest level.
 fn order_level(level: u8) -> u8
     ensures { result ≡ order_level_of level }
 {
-    if level == 0 { 25 } else { level }
+    if level == 0 { MAX_LEVEL } else { level }
 }
 
 /// The written pair of two lists of levels: 0 on both sides where they agree.
@@ -108,7 +108,7 @@ fn cancel(a: &Tuple, b: &Tuple) -> Tuple
 {
     let levels = a.as_slice();
     let others = b.as_slice();
-    let mut cells = [0; 24];
+    let mut cells = [0; MAX_INCREMENTS];
     for place in 0..levels.len() {
         cells[place] = unless_equal(levels[place], others[place]);
     }

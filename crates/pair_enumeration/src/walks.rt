@@ -5,7 +5,7 @@ ghost use Rattle.pair_enumeration.specs.declared.walks.Stage.{Stage};
 ghost use Rattle.pair_enumeration.specs.declared.walks.Walk.{Walk};
 ghost use Rattle.pair_enumeration.specs.Walks.{stage_after, IsWalk, joined, found_from, found_with, listed_classes};
 
-use criteria_model::{Pair, Tuple};
+use criteria_model::{MAX_INCREMENTS, MAX_LEVEL, Pair, Tuple};
 use std::alloc::{AllocError as NoMemory, Global};
 
 /// Which sides are higher on some criterion so far.
@@ -52,8 +52,8 @@ impl Stage {
 /// A walk over the criteria: the levels before `place`, and on how many criteria from there on the sides differ.
 #[derive(Clone, Copy)]
 struct Walk {
-    left: [u8; 24],
-    right: [u8; 24],
+    left: [u8; MAX_INCREMENTS],
+    right: [u8; MAX_INCREMENTS],
     place: usize,
     rest: usize,
     stage: Stage,
@@ -67,8 +67,8 @@ impl Walk {
         ensures stage { result.stage ≡ Stage.Same }
     {
         Walk {
-            left: [0; 24],
-            right: [0; 24],
+            left: [0; MAX_INCREMENTS],
+            right: [0; MAX_INCREMENTS],
             place: 0,
             rest: degree,
             stage: Stage::Same,
@@ -77,7 +77,7 @@ impl Walk {
 
     /// The walk after one more criterion, with these levels on it.
     fn after(self, left: u8, right: u8, rest: usize, stage: Stage) -> Walk
-        requires { self.place < 24 }
+        requires { self.place < MAX_INCREMENTS }
         ensures place { result.place ≡ self.place + 1 }
         ensures left { take (self.place + 1) result.left ≡ take self.place self.left ++ left ∷ [] }
         ensures right { take (self.place + 1) result.right ≡ take self.place self.right ++ right ∷ [] }
@@ -98,9 +98,9 @@ impl Walk {
     /// The pair of the levels so far.
     fn pair(&self) -> Pair
         requires some { 1 ≤ self.now.place }
-        requires most { self.now.place ≤ 24 }
-        requires left { All (λ n. n ≤ 25) (take self.now.place self.now.left) }
-        requires right { All (λ n. n ≤ 25) (take self.now.place self.now.right) }
+        requires most { self.now.place ≤ MAX_INCREMENTS }
+        requires left { All (λ n. n ≤ MAX_LEVEL) (take self.now.place self.now.left) }
+        requires right { All (λ n. n ≤ MAX_LEVEL) (take self.now.place self.now.right) }
         ensures { result ≡ joined (take self.now.place self.now.left) (take self.now.place self.now.right) [] }
     {
         Pair {
@@ -140,7 +140,7 @@ fn extend_with(classes: &mut Vec<Pair>, counts: &[u8], walk: Walk, left: u8) -> 
     requires walk { IsWalk counts.now walk }
     requires more { walk.place < length counts.now }
     requires some { 1 ≤ walk.rest }
-    requires level { left ≤ 25 }
+    requires level { left ≤ MAX_LEVEL }
     ensures { OnOk result (classes.new.items
         ≡ classes.old.items ++ found_with counts.now walk (slice_index counts.now walk.place) left) }
 {
@@ -164,8 +164,8 @@ pub(crate) fn list_classes(
     room: usize,
 ) -> Result<Vec<Pair>, NoMemory>
     requires some { 1 ≤ length counts.now }
-    requires most { length counts.now ≤ 24 }
-    requires levels { All (λ n. n ≤ 25) counts.now }
+    requires most { length counts.now ≤ MAX_INCREMENTS }
+    requires levels { All (λ n. n ≤ MAX_LEVEL) counts.now }
     requires limit { (1 ≤ limit) × (limit ≤ length counts.now) }
     ensures { IfOk result (λ classes. classes.items ≡ listed_classes counts.now limit) }
 {

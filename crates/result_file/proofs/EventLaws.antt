@@ -1,10 +1,10 @@
 -- What the line of an event does to the history before it.
-use Rattle.std.proofs.Common.{◌≡◌, ◌≢◌, ℕ, ◌-◌, ◌<◌, ◌≤◌, List, [], ◌∷◌, ◌++◌, length, refl, ap, ◌∙◌, arith, None}
+use Rattle.std.proofs.Common.{◌≡◌, ◌≢◌, ℕ, ◌-◌, ◌<◌, ◌≤◌, List, [], ◌∷◌, ◌++◌, length, refl, ap, ◌∙◌, arith, None, Some}
 use Rattle.std.proofs.lemmas.List.Elements.{All-nil, All-cons, All-append}
 use Rattle.std.proofs.lemmas.Option.{slice_get_within}
 use Rattle.criteria_model.specs.declared.pairs.Pair.{Pair}
 use Rattle.pair_enumeration.specs.Listed.{Listed}
-use Rattle.pair_enumeration.specs.Places.{StandsAt}
+use Rattle.pair_enumeration.specs.Places.{class_at}
 use Rattle.survey_core.specs.declared.events.Event.{Event}
 use Rattle.survey_core.specs.declared.events.Event.TheVariants as events
 use Rattle.survey_core.specs.declared.broken.Broken.{Broken}
@@ -13,7 +13,7 @@ use Rattle.farkas_check.specs.declared.flaws.Flaw.TheVariants as flaws
 use Rattle.survey_core.specs.Legal.{IsEvent, IsLegal}
 use Rattle.survey_core.specs.Recorded.{Recorded}
 use Rattle.survey_core.specs.Legal.{FailsFirst}
-use Rattle.survey_core.proofs.ItemLemmas.{item_of}
+use Rattle.row_laws.proofs.ItemLemmas.{item_positive, item_within}
 use Rattle.survey_core.proofs.PartLemmas.{eliminate_lacks_class, issue_lacks_class, commit_has_no_class, close_has_no_class, withdraw_has_no_class}
 use Rattle.result_file.specs.declared.entries.Entry.{Entry}
 use Rattle.result_file.specs.declared.entries.Format.{Format}
@@ -31,11 +31,11 @@ use Rattle.result_file.specs.Texts.{most_lines, end_line, entry_line}
 
 -- ---- the class of an entry
 
-pub stands_within : (classes : List Pair) (place : ℕ) (pair : Pair) → StandsAt classes place pair → (1 ≤ place) × (place ≤ length classes)
-stands_within classes place pair h = (h.positive, omega (arith, h.positive, slice_get_within classes (place - 1) pair h.found))
+pub stands_within : (classes : List Pair) (place : ℕ) (pair : Pair) → class_at classes place ≡ Some pair → (1 ≤ place) × (place ≤ length classes)
+stands_within classes place pair at = (item_positive classes place pair at, item_within classes place pair at)
 
-pub stands_read : (classes : List Pair) (place : ℕ) (pair : Pair) → StandsAt classes place pair → pair_at_place classes place ≡ pair
-stands_read classes place pair h = rw (item_of classes place pair h.positive h.found) refl
+pub stands_read : (classes : List Pair) (place : ℕ) (pair : Pair) → class_at classes place ≡ Some pair → pair_at_place classes place ≡ pair
+stands_read classes place pair at = rw at refl
 
 -- ---- an entry's event
 

@@ -3,25 +3,26 @@ use Rattle.std.proofs.Common.{◌≡◌, ℕ, ◌-◌, List, refl, sym, ap, subs
 use Rattle.criteria_model.specs.declared.pairs.Pair.{Pair}
 use Rattle.criteria_model.specs.Classes.{IsClass}
 use Rattle.pair_enumeration.specs.Listed.{Listed, IsListed}
-use Rattle.pair_enumeration.specs.Places.{StandsAt}
+use Rattle.pair_enumeration.specs.Places.{class_at}
 use Rattle.pair_enumeration.proofs.SearchLemmas.{stands_once, stands_contains}
 use Rattle.survey_core.specs.declared.events.Event.{Event}
 use Rattle.survey_core.specs.declared.events.Event.TheVariants as events
 use Rattle.survey_core.specs.Legal.{IsPlace, MayFollow}
 use Rattle.survey_core.proofs.ListSteps.{slice_get_inside}
-use Rattle.survey_core.proofs.ItemLemmas.{item_of}
+use Rattle.row_laws.proofs.ItemLemmas.{item_of}
 use Rattle.result_file.specs.declared.eliminations.Elimination.{Elimination}
 use Rattle.result_file.specs.Events.{pair_at_place, as_entry, NamesClass}
 
 -- ---- classes by their places
 
 -- at the place of a class stands the pair that is read there
-pub stands_there : (listed : Listed) (place : ℕ) → IsPlace listed place → StandsAt listed.classes place (pair_at_place listed.classes place)
+pub stands_there : (listed : Listed) (place : ℕ) → IsPlace listed place → class_at listed.classes place ≡ Some (pair_at_place listed.classes place)
 stands_there listed place is_place =
     let found : (pair : Pair) × (slice_get listed.classes (place - 1) ≡ Some pair) =
     slice_get_inside listed.classes (place - 1) (omega (arith, is_place.0, is_place.1)) in
-    let read : pair_at_place listed.classes place ≡ found.0 = rw (item_of listed.classes place found.0 is_place.0 found.1) refl in
-    record { positive = is_place.0; found = found.1 ∙ ap Some (sym read) }
+    let at : class_at listed.classes place ≡ Some found.0 = item_of listed.classes place found.0 is_place.0 found.1 in
+    let read : pair_at_place listed.classes place ≡ found.0 = rw at refl in
+    at ∙ ap Some (sym read)
 
 pub is_class_there : (listed : Listed) (place : ℕ) → IsListed listed → IsPlace listed place → IsClass listed.criteria (pair_at_place listed.classes place)
 is_class_there listed place list is_place =
@@ -31,7 +32,7 @@ place_once : (listed : Listed) (one other : ℕ) → IsListed listed → IsPlace
     → pair_at_place listed.classes one ≡ pair_at_place listed.classes other → one ≡ other
 place_once listed one other list h k same =
     stands_once listed.classes one other (pair_at_place listed.classes other) list.list.ordered
-    (subst (λ (pair : Pair). StandsAt listed.classes one pair) same (stands_there listed one h)) (stands_there listed other k)
+    (stands_there listed one h ∙ ap Some same) (stands_there listed other k)
 
 -- ---- events
 

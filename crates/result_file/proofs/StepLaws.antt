@@ -8,7 +8,7 @@ use Rattle.std.proofs.Math.ListN.{get_or-append}
 use Rattle.std.proofs.Math.Seq.{get_or-append_seam}
 use Rattle.criteria_model.specs.Criteria.{Criteria, IsModel}
 use Rattle.pair_enumeration.specs.Listed.{Listed, IsListed}
-use Rattle.pair_enumeration.proofs.OneList.{one_class_list_lem}
+use Rattle.pair_enumeration.proofs.OneList.{one_listed}
 use Rattle.survey_core.specs.declared.events.Event.{Event}
 use Rattle.survey_core.specs.Legal.{MayFollow, IsLegal}
 use Rattle.survey_core.specs.Recorded.{Recorded}
@@ -100,7 +100,7 @@ begins_once kind line (of_events f s) (of_events g t) h k =
     let formats : f ≡ g = cc in
     let models : s.listed.criteria ≡ t.listed.criteria =
     same_model s.listed.criteria t.listed.criteria line h.right.listed.model k.right.listed.model h.spelled k.spelled in
-    let lists : s.listed ≡ t.listed = one_class_list_lem s.listed t.listed h.right.listed k.right.listed models in
+    let lists : s.listed ≡ t.listed = one_listed s.listed t.listed h.right.listed k.right.listed models in
     same_events f g s t formats
     (same_survey s t lists (no_lines (event_line s.listed.classes) s.history h.empty ∙ sym (no_lines (event_line t.listed.classes) t.history k.empty)))
 

@@ -2,6 +2,7 @@
 use Rattle.std.proofs.Common.{◌≡◌, ◌≢◌, ℕ, zero, suc, ◌<◌, ℤ, pos, ◌+ℤ◌, ◌*ℤ◌, List, [], ◌∷◌, length, get_or, set, refl, sym, ap, ◌∙◌, arith}
 use Rattle.std.proofs.lemmas.List.{set-get_or}
 use Rattle.row_laws.specs.Rows.{entry, dot}
+use Rattle.row_laws.proofs.RowLemmas.{dot_comm}
 use Rattle.row_laws.proofs.Integers.{sums, add-mul, mul-add, mul_assoc, zero-mul, mul-zero}
 
 -- the sum over the numbers, each times its factor
@@ -68,3 +69,8 @@ total_single f numbers k h zeros =
   where
     alone : (p q r s : ℤ) → q ≡ pos 0 → r ≡ pos 0 → p +ℤ q ≡ r +ℤ s → p ≡ s
     alone p q r s h k e = omega (arith, sums)
+
+-- a product depends on what the second row has at the places of the first
+pub dot-same : (v a b : List ℤ) → ((place : ℕ) → place < length v → entry a place ≡ entry b place) → dot v a ≡ dot v b
+dot-same v a b h =
+    dot_comm v a ∙ dot_is_total a v ∙ total_same (entry a) (entry b) v h ∙ sym (dot_is_total b v) ∙ dot_comm b v

@@ -1,3 +1,4 @@
 pub mod Rows
 pub mod Padded
+pub mod Items
 pub mod Laws

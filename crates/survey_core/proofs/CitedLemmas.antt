@@ -1,5 +1,5 @@
 -- A proof speaks of the answers that it cites alone.
-use Rattle.std.proofs.Common.{◌≡◌, ℕ, suc, ◌+◌, ◌-◌, ◌<◌, ◌≤◌, List, [], ◌∷◌, length, map, take, get_or, slice_index, Some, All, Any, Option, slice_get, ℤ, refl, ap, sym, subst, ◌∙◌, inl, inr, arith, append-nil, length-take}
+use Rattle.std.proofs.Common.{◌≡◌, ℕ, suc, ◌+◌, ◌-◌, ◌<◌, ◌≤◌, List, [], ◌∷◌, length, map, take, get_or, slice_index, Some, All, Any, Option, slice_get, ℤ, ◌+ℤ◌, ◌*ℤ◌, refl, ap, ap₂, sym, subst, ◌∙◌, inl, inr, arith, append-nil, length-take}
 use Rattle.std.specs.Option.{option_map_or}
 use Rattle.std.specs.List.Sorted.{IsStrictlyIncreasing}
 use Rattle.std.proofs.lemmas.Option.{none-some, same_Some}
@@ -7,11 +7,11 @@ use Rattle.criteria_model.specs.declared.pairs.Pair.{Pair}
 use Rattle.criteria_model.specs.declared.pairs.Answer.{Answer}
 use Rattle.criteria_model.specs.declared.pairs.Side.{Side}
 use Rattle.criteria_model.specs.declared.pairs.Side.TheVariants.{Left, Right, Equal}
-use Rattle.row_laws.specs.Rows.{plus, times}
+use Rattle.row_laws.specs.Rows.{entry}
 use Rattle.criteria_model.specs.Answers.{gain, IsRanked}
 use Rattle.farkas_check.specs.declared.cites.Cite.{Cite}
 use Rattle.farkas_check.specs.declared.combination.Combination.{Combination}
-use Rattle.farkas_check.specs.Sums.{cited_side, cited_gain, total}
+use Rattle.farkas_check.specs.Sums.{cited_side, sum_of_cites}
 use Rattle.farkas_check.specs.Proof.{MayWeigh, IsStrict, IsStrictEnough, Proves}
 use Rattle.farkas_check.proofs.Ranking.{proved_is_ranked_lem}
 use Rattle.survey_core.specs.Marked.{greatest_cited}
@@ -50,11 +50,11 @@ greatest_last (first ∷ cites) last rising at =
 abbrev Same : List Answer → List Answer → Cite → Type 0
 Same b a cite = slice_get b (cite.answer - 1) ≡ slice_get a (cite.answer - 1)
 
-total_same : (levels : List ℕ) (b a : List Answer) (cites : List Cite) → Each (Same b a) cites → (own : List ℤ) → total levels b own cites ≡ total levels a own cites
-total_same levels b a [] same own = refl
-total_same levels b a (cite ∷ cites) same own =
-    total_same levels b a cites same.1 (plus own (times cite.weight (cited_gain levels b cite)))
-    ∙ ap (λ (o : Option Answer). total levels a (plus own (times cite.weight (option_map_or (λ answer. gain levels answer.pair answer.side) o []))) cites) same.0
+sum_same : (levels : List ℕ) (b a : List Answer) (cites : List Cite) (place : ℕ) → Each (Same b a) cites → sum_of_cites levels b cites place ≡ sum_of_cites levels a cites place
+sum_same levels b a [] place same = refl
+sum_same levels b a (cite ∷ cites) place same =
+    ap₂ (λ (o : Option Answer) (s : ℤ). cite.weight *ℤ entry (option_map_or (λ answer. gain levels answer.pair answer.side) o []) place +ℤ s)
+    same.0 (sum_same levels b a cites place same.1)
 
 strict_same : (b a : List Answer) (cites : List Cite) → All (Same b a) cites
     → Any (λ cite. IsStrict (cited_side a cite) cite.weight) cites → Any (λ cite. IsStrict (cited_side b cite) cite.weight) cites
@@ -89,7 +89,9 @@ proved_by_cited levels answers c pair side proves =
           λ k d h.
           subst (λ (o : Option Answer). MayWeigh (option_map_or (λ answer. answer.side) o Equal) (get_or c.answers k d).weight) (sym (same k d h))
           (proves.weights k d h);
-      sums = proves.sums ∙ sym (total_same levels b answers c.answers (All-Each (Same b answers) c.answers same) c.increments);
+      sums =
+          λ place within.
+          proves.sums place within ∙ ap (λ (s : ℤ). s +ℤ entry c.increments place) (sym (sum_same levels b answers c.answers place (All-Each (Same b answers) c.answers same)));
       strict = enough_same b answers c side same proves.strict;
     }
 

@@ -25,7 +25,7 @@ use Rattle.survey_core.specs.Marked.{Table, is_ranking, is_elimination, is_open,
 use Rattle.survey_core.proofs.ListSteps.{slice_get_inside, Each, Each-append, Each-All, All-Each, Each-front, Each-back, some_at, at_some, filtered_range}
 use Rattle.survey_core.proofs.SoundLemmas.{IsSound, sound_history}
 use Rattle.survey_core.proofs.TableLemmas.{count_less}
-use Rattle.survey_core.proofs.ItemLemmas.{item_of, item_found}
+use Rattle.row_laws.proofs.ItemLemmas.{item_of, item_found}
 use Rattle.survey_core.proofs.ReadLemmas.{mark_at, question_at, issued_len, asks_at, mark_eliminated, mark_ranked, question_unended, open_count, contains_filtered, answers_fit}
 
 false_true : false ≡ true → ⊥
@@ -174,16 +174,13 @@ module _ (listed : Listed) (history : List Event) (answers : AnswersWithRoom) (t
   levels = listed.criteria.levels
 
   abbrev Stands : ℕ → Pair → Type 0
-  Stands place pair = (1 ≤ place) × (slice_get listed.classes (place - 1) ≡ Some pair)
-
-  stands_at : (place : ℕ) (pair : Pair) → Stands place pair → class_at listed.classes place ≡ Some pair
-  stands_at place pair stands = item_of listed.classes place pair stands.0 stands.1
+  Stands place pair = class_at listed.classes place ≡ Some pair
 
   pub flaw_at : (model : Criteria) (place : ℕ) (pair : Pair) (combination : Combination) (verdict : Side) (flaw : Option Flaw) → model ≡ listed.criteria → Stands place pair
       → IsFirstFlaw model.levels answers.answers combination pair verdict flaw
       → IsSomeAnd (class_at listed.classes place) (λ pair. IsFirstFlaw levels (committed listed.classes history) combination pair verdict flaw)
   flaw_at model place pair combination verdict flaw same at first =
-      some_at (class_at listed.classes place) (λ pair. IsFirstFlaw levels (committed listed.classes history) combination pair verdict flaw) pair (stands_at place pair at)
+      some_at (class_at listed.classes place) (λ pair. IsFirstFlaw levels (committed listed.classes history) combination pair verdict flaw) pair at
       (subst (λ (l : List Answer). IsFirstFlaw levels l combination pair verdict flaw) kept.answered
       (subst (λ (m : Criteria). IsFirstFlaw m.levels answers.answers combination pair verdict flaw) same first))
 
@@ -194,7 +191,7 @@ module _ (listed : Listed) (history : List Event) (answers : AnswersWithRoom) (t
       subst (λ (l : List Answer). IsTrue r ↔ Opens levels l pair plus minus) kept.answered
       (subst (λ (m : Criteria). IsTrue r ↔ Opens m.levels answers.answers pair plus minus) same exactly) in
       let Opened : Pair → Type 0 = λ pair. Opens levels (committed listed.classes history) pair plus minus in
-      ((λ h. some_at (class_at listed.classes place) Opened pair (stands_at place pair at) (here.0 h)), (λ h. here.1 (at_some (class_at listed.classes place) Opened pair (stands_at place pair at) h)))
+      ((λ h. some_at (class_at listed.classes place) Opened pair at (here.0 h)), (λ h. here.1 (at_some (class_at listed.classes place) Opened pair at h)))
 
   pub meets_at : (model : Criteria) (place : ℕ) (pair : Pair) (side : Side) (point : List ℤ) → model ≡ listed.criteria → Stands place pair
       → (MeetsAll model.levels answers.answers point × Ranks model.levels point pair side)
@@ -205,8 +202,8 @@ module _ (listed : Listed) (history : List Event) (answers : AnswersWithRoom) (t
       λ m. (MeetsAll m.levels answers.answers point × Ranks m.levels point pair side) ↔ IsSomeAnd (class_at listed.classes place) (With (committed listed.classes history)) in
       let given : Answer = record { pair = pair; side = side } in
       subst Both (sym same) (
-        (λ h. some_at (class_at listed.classes place) (With (committed listed.classes history)) pair (stands_at place pair at)
+        (λ h. some_at (class_at listed.classes place) (With (committed listed.classes history)) pair at
             (subst (λ (l : List Answer). With l pair) kept.answered (meets_push levels answers.answers given point h.0 h.1))),
         (λ h. meets_pop levels answers.answers given point
-            (subst (λ (l : List Answer). With l pair) (sym kept.answered) (at_some (class_at listed.classes place) (With (committed listed.classes history)) pair (stands_at place pair at) h))),
+            (subst (λ (l : List Answer). With l pair) (sym kept.answered) (at_some (class_at listed.classes place) (With (committed listed.classes history)) pair at h))),
       )

@@ -1,6 +1,5 @@
 pub mod ListSteps
 pub mod NamedParts
-pub mod ItemLemmas
 pub mod StandingLemmas
 pub mod CitedLemmas
 pub mod SoundLemmas

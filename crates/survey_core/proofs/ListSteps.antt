@@ -6,6 +6,7 @@ use Rattle.std.proofs.lemmas.Option.{none-some, same_Some}
 use Rattle.std.proofs.lemmas.List.Elements.{filter-append}
 use Rattle.std.proofs.lemmas.List.Concat.{flat_map-cons}
 use Rattle.std.specs.List.{fold, filter, filter_map, flat_map, cons_option, list_any, range_with_len}
+pub use Rattle.row_laws.proofs.ItemLemmas.{slice_get-append, slice_get_inside}
 
 -- P holds of each element
 abbrev pub Each : {X : Type 0} → (X → Type 0) → List X → Type 0
@@ -62,11 +63,6 @@ slice_get-take (suc n) [] k h = refl
 slice_get-take (suc n) (x ∷ xs) zero h = refl
 slice_get-take (suc n) (x ∷ xs) (suc k) h = slice_get-take n xs k (omega arith)
 
-pub slice_get-append : {X : Type 0} (xs ys : List X) (k : ℕ) (x : X) → slice_get xs k ≡ Some x → slice_get (xs ++ ys) k ≡ Some x
-slice_get-append [] ys k x h = absurd (none-some x h)
-slice_get-append (y ∷ xs) ys zero x h = h
-slice_get-append (y ∷ xs) ys (suc k) x h = slice_get-append xs ys k x h
-
 -- an element of a longer list stands in the first part, or is the new one
 pub slice_get-push : {X : Type 0} (xs : List X) (y : X) (k : ℕ) (x : X) → slice_get (xs ++ y ∷ []) k ≡ Some x
     → (slice_get xs k ≡ Some x) ⊎ ((k ≡ length xs) × (y ≡ x))
@@ -89,11 +85,6 @@ take-take (suc l) (suc n) (x ∷ xs) h = ap (λ rest. x ∷ rest) (take-take l n
 pub filter_map-same : {X Y : Type 0} (f g : X → Option Y) (xs : List X) → Each (λ x. f x ≡ g x) xs → filter_map f xs ≡ filter_map g xs
 filter_map-same f g [] hs = refl
 filter_map-same f g (x ∷ xs) hs = ap (λ o. cons_option o (filter_map f xs)) hs.0 ∙ ap (λ rest. cons_option (g x) rest) (filter_map-same f g xs hs.1)
-
-pub slice_get_inside : {X : Type 0} (xs : List X) (k : ℕ) → k < length xs → (x : X) × (slice_get xs k ≡ Some x)
-slice_get_inside [] k h = absurd (omega arith)
-slice_get_inside (x ∷ xs) zero h = (x, refl)
-slice_get_inside (x ∷ xs) (suc k) h = slice_get_inside xs k (omega arith)
 
 pub take_next : {X : Type 0} (xs : List X) (k : ℕ) (x : X) → slice_get xs k ≡ Some x → take (suc k) xs ≡ take k xs ++ x ∷ []
 take_next [] k x h = absurd (none-some x h)

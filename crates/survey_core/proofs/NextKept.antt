@@ -36,7 +36,7 @@ use Rattle.survey_core.proofs.SoundLemmas.{IsSoundAt, IsSound, sound_history, co
 use Rattle.survey_core.proofs.TableLemmas.{count_set, count_less, one_if}
 use Rattle.survey_core.proofs.KeptLemmas.{ranked_at, found_at, unended_at, place_at, or_either, or_left, or_right}
 use Rattle.survey_core.proofs.ReadLemmas.{map_some, mark_at, asks_at, issued_len}
-use Rattle.survey_core.proofs.ItemLemmas.{item_of, item_found, item_positive, item_within}
+use Rattle.row_laws.proofs.ItemLemmas.{item_of, item_found, item_positive, item_within}
 use Rattle.survey_core.proofs.NextTables.{table_eliminate, table_issue, table_commit, table_close, table_withdraw}
 
 -- ---- legal histories
@@ -269,7 +269,7 @@ module _ (listed : Listed) (history : List Event) (answers : AnswersWithRoom) (t
 
   pub kept_commit : (desk number : ℕ) (side : Side) (plus minus point : List ℤ) (question : Question) (pair : Pair) (after : AnswersWithRoom)
       → IsEvent listed.criteria.levels (Commit desk number side plus minus point) → MayCommit listed history number side plus minus point
-      → slice_get table.questions (number - 1) ≡ Some question → slice_get listed.classes (question.place - 1) ≡ Some pair
+      → slice_get table.questions (number - 1) ≡ Some question → class_at listed.classes question.place ≡ Some pair
       → after.answers ≡ answers.answers ++ record { pair = pair; side = side } ∷ [] → room_of after ≡ room_of answers
       → KeepsWith (Commit desk number side plus minus point) after
       (record {
@@ -293,7 +293,7 @@ module _ (listed : Listed) (history : List Event) (answers : AnswersWithRoom) (t
       let questions : List Question = slice_set table.questions (number - 1) gone in
       let asks_place : place_of (issued history) number ≡ Some place = asks_at kept.table_of number question within.0 asks in
       let asks_pair : class_of listed.classes (issued history) number ≡ Some pair =
-      ap (λ (o : Option ℕ). option_and_then (class_at listed.classes) o) asks_place ∙ item_of listed.classes place pair here.0 class in
+      ap (λ (o : Option ℕ). option_and_then (class_at listed.classes) o) asks_place ∙ class in
       let same : committed listed.classes (history ++ event ∷ []) ≡ committed listed.classes history ++ given ∷ [] =
       committed-push listed history sound event refl (standing-push history event)
       ∙ ap (λ (o : Option Pair). committed listed.classes history ++ cons_option (option_map (λ p. record { pair = p; side = side }) o) []) asks_pair in
@@ -506,7 +506,7 @@ module _ (listed : Listed) (history : List Event) (answers : AnswersWithRoom) (t
 
   pub kept_commit_at : (desk number : ℕ) (side : Side) (plus minus point : List ℤ) (place level : ℕ) (pair : Pair) (after : AnswersWithRoom)
       → IsEvent listed.criteria.levels (Commit desk number side plus minus point) → MayCommit listed history number side plus minus point
-      → AsksPlace number place → level ≡ length answers.answers → slice_get listed.classes (place - 1) ≡ Some pair
+      → AsksPlace number place → level ≡ length answers.answers → class_at listed.classes place ≡ Some pair
       → after.answers ≡ answers.answers ++ record { pair = pair; side = side } ∷ [] → room_of after ≡ room_of answers
       → KeepsWith (Commit desk number side plus minus point) after (record {
         classes = with_ranking table.classes (place - 1) (CommittedBy (level + 1));
@@ -514,7 +514,7 @@ module _ (listed : Listed) (history : List Event) (answers : AnswersWithRoom) (t
       }) withdrawn
   kept_commit_at desk number side plus minus point place level pair after is may asks count class pushed same_room =
       let found : Asking number place = asking number place asks in
-      let here : slice_get listed.classes (found.question.place - 1) ≡ Some pair = subst (λ (n : ℕ). slice_get listed.classes (n - 1) ≡ Some pair) (sym found.asked) class in
+      let here : class_at listed.classes found.question.place ≡ Some pair = subst (λ (n : ℕ). class_at listed.classes n ≡ Some pair) (sym found.asked) class in
       subst (λ (k : ℕ). KeepsWith (Commit desk number side plus minus point) after (record {
         classes = with_ranking table.classes (place - 1) (CommittedBy (k + 1));
         questions = with_ending table.questions (number - 1) (Committed (k + 1));

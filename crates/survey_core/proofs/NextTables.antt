@@ -30,7 +30,7 @@ use Rattle.survey_core.proofs.ListSteps.{Each, Each-map, slice_get-push, slice_g
 use Rattle.survey_core.proofs.StandingLemmas.{standing-push, issued-push}
 use Rattle.survey_core.proofs.SoundLemmas.{IsSoundAt, IsSound, issued-same, resting-push, resting-withdraw}
 use Rattle.survey_core.proofs.TableLemmas.{set_cases, count_set, one_if}
-use Rattle.survey_core.proofs.ItemLemmas.{item_within, item_at-append}
+use Rattle.row_laws.proofs.ItemLemmas.{item_within, item_at-append}
 use Rattle.survey_core.proofs.ReadLemmas.{map_some, mark_at, question_at, issued_len, asks_at}
 
 -- ---- lists

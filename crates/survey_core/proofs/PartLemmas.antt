@@ -8,7 +8,7 @@ use Rattle.farkas_check.specs.declared.combination.Combination.{Combination}
 use Rattle.farkas_check.specs.declared.flaws.Flaw.{Flaw}
 use Rattle.farkas_check.specs.declared.flaws.Flaw.TheVariants.{Scale, Increment, Cite, Weight, Sum, Strict}
 use Rattle.farkas_check.specs.Flaws.{IsFirstFlaw}
-use Rattle.farkas_check.specs.Proof.{HasScale, HasOwnWeights, HasCited, HasWeights, HasSums, IsStrictEnough, Proves}
+use Rattle.farkas_check.specs.Proof.{HasPositiveScale, HasNonnegativeIncrements, HasCited, HasWeights, HasSums, IsStrictEnough, Proves}
 use Rattle.pair_enumeration.specs.Listed.{Listed}
 use Rattle.survey_core.specs.declared.broken.Broken.{Broken}
 use Rattle.survey_core.specs.declared.broken.Broken.TheVariants as broken
@@ -79,8 +79,8 @@ flaw_once holds name x y h k =
 
 module _ (levels : List ℕ) (answers : List Answer) (c : Combination) (pair : Pair) (side : Side) where
   abbrev flaw_part : ℕ → Type 0
-  flaw_part zero = HasScale c
-  flaw_part (suc zero) = HasOwnWeights c
+  flaw_part zero = HasPositiveScale c
+  flaw_part (suc zero) = HasNonnegativeIncrements c
   flaw_part (suc (suc zero)) = HasCited answers c
   flaw_part (suc (suc (suc zero))) = HasWeights answers c
   flaw_part (suc (suc (suc (suc zero)))) = HasSums levels answers c pair side

@@ -18,7 +18,7 @@ use Rattle.farkas_check.proofs.Ranking.{proved_is_ranked_lem}
 use Rattle.pair_enumeration.specs.declared.flips.Flip.{Flip}
 use Rattle.pair_enumeration.specs.declared.flips.Flip.TheVariants.{Kept, Turned}
 use Rattle.pair_enumeration.specs.Listed.{Listed}
-use Rattle.pair_enumeration.specs.Places.{flipped, StandsAt}
+use Rattle.pair_enumeration.specs.Places.{flipped}
 use Rattle.pair_enumeration.proofs.PlaceLaws.{each_pair_has_place_lem}
 use Rattle.survey_core.specs.declared.events.Event.{Event}
 use Rattle.survey_core.specs.declared.events.Event.TheVariants.{Eliminate, Issue, Commit, Close, Withdraw}
@@ -29,7 +29,7 @@ use Rattle.survey_core.proofs.NamedParts.{MayEliminate, named}
 use Rattle.survey_core.specs.Laws.{last_point, GivesSide, HasRanking, flipped_side, AnswersAreSatisfiable, EliminatedAreRanked, RankedHasRanking, EachHasOneRanking, RankingsAreByAnswers, ClassRanksPairs, CompleteRanksEveryPair}
 use Rattle.survey_core.specs.Marked.{rests_on, Resting, numbered}
 use Rattle.survey_core.proofs.ListSteps.{Each, some_and}
-use Rattle.survey_core.proofs.ItemLemmas.{item_of}
+use Rattle.row_laws.proofs.ItemLemmas.{item_positive, item_within}
 use Rattle.survey_core.proofs.StandingLemmas.{step}
 use Rattle.survey_core.proofs.SoundLemmas.{IsSoundAt, IsSound, sound_history}
 use Rattle.survey_core.proofs.LawLemmas.{last_point_meets_lem}
@@ -189,9 +189,6 @@ each_has_one_ranking_lem listed history place one other model legal first second
     ranks_once levels met.0 a.0 one other (a.2 met.0 met.1) (b met.0 met.1)
 
 -- ---- every pair that a class stands for
-at_stand : {classes : List Pair} {place : ℕ} {pair : Pair} → StandsAt classes place pair → class_at classes place ≡ Some pair
-at_stand {classes} {place} {pair} stands = item_of classes place pair stands.positive stands.found
-
 turned_ranks : (levels : List ℕ) (values : List ℤ) (a b : List ℕ) (side : Side) → Ranks levels values (record { left = b; right = a }) side
     → Ranks levels values (record { left = a; right = b }) (turned_side side)
 turned_ranks levels values a b Left h = h
@@ -205,7 +202,7 @@ flipped_ranks levels values a b Turned side h = turned_ranks levels values a b s
 
 pub class_ranks_pairs_lem : ClassRanksPairs
 class_ranks_pairs_lem listed answers place side pair a b flip class ranked stands =
-    let same : pair ≡ stands.pair = same_Some pair stands.pair (sym class ∙ at_stand stands.stands) in
+    let same : pair ≡ stands.pair = same_Some pair stands.pair (sym class ∙ stands.stands) in
     λ values meets.
     flipped_ranks listed.criteria.levels values a b flip side
     (replicas_rank_same_lem listed.criteria.levels values stands.pair (flipped flip a b) side stands.replica
@@ -215,15 +212,15 @@ pub complete_ranks_every_pair_lem : CompleteRanksEveryPair
 complete_ranks_every_pair_lem listed history model legal each a b first second needs =
     let answers : List Answer = committed listed.classes history in
     let (place, flip, class) = each_pair_has_place_lem listed a b model first second needs in
-    let within : place - 1 < length listed.classes = slice_get_within listed.classes (place - 1) class.pair class.stands.found in
-    let found : (side : Side) × HasRanking history place side = (ranked_has_ranking_lem history place).0 (each place (class.stands.positive, omega arith)) in
+    let within : place ≤ length listed.classes = item_within listed.classes place class.pair class.stands in
+    let found : (side : Side) × HasRanking history place side = (ranked_has_ranking_lem history place).0 (each place (item_positive listed.classes place class.pair class.stands, within)) in
     let by : IsRanked listed.criteria.levels answers class.pair found.0 =
-    rankings_are_by_answers_lem listed history place found.0 class.pair legal found.1 (at_stand class.stands) in
+    rankings_are_by_answers_lem listed history place found.0 class.pair legal found.1 class.stands in
     record {
       place = place;
       flip = flip;
       side = found.0;
       class = class;
       ranking = found.1;
-      ranked = class_ranks_pairs_lem listed answers place found.0 class.pair a b flip (at_stand class.stands) by class;
+      ranked = class_ranks_pairs_lem listed answers place found.0 class.pair a b flip class.stands by class;
     }

@@ -25,7 +25,7 @@ use Rattle.survey_core.specs.Kinds.{eliminates}
 use Rattle.survey_core.specs.Histories.{standing, issued, class_at, class_of, place_of, answer_of, committed, ends, is_unended, open_questions, is_eliminated, commits_class, is_committed, is_ranked}
 use Rattle.survey_core.specs.Marked.{Resting, numbered, resting, ranking_by, marked_rankings, ending_by, marked_endings, is_ranking, is_elimination, is_open, is_open_mark, Table, IsMark, IsQuestionMark, IsTableOf}
 use Rattle.survey_core.proofs.ListSteps.{Each, Each-All, and_then_some}
-use Rattle.survey_core.proofs.ItemLemmas.{item_of, item_found}
+use Rattle.row_laws.proofs.ItemLemmas.{item_of, item_found}
 use Rattle.survey_core.proofs.StandingLemmas.{step}
 
 any_flat : {X Y : Type 0} (f : X → List Y) (q : Y → Bool) (p : X → Bool) → ((x : X) → list_any q (f x) ≡ p x) → (xs : List X)

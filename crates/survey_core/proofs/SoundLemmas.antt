@@ -21,7 +21,7 @@ use Rattle.survey_core.specs.Legal.{IsPlace, MayFollow, IsLegal}
 use Rattle.survey_core.proofs.NamedParts.{MayEliminate, MayIssue, MayCommit, MayClose, MayWithdraw, HasParts, named}
 use Rattle.survey_core.specs.Marked.{greatest_cited, rests_on, Resting, numbered, resting}
 use Rattle.survey_core.proofs.ListSteps.{Each, Each-append, Each-map, Each-filter, All-Each, slice_get-take, slice_get-append, slice_get-push, slice_get-last, take-take, filter_map-same, some_and, and_then_some, any_at, filtered_range, take_whole, slice_get_inside, take_next}
-use Rattle.survey_core.proofs.ItemLemmas.{item_at-append}
+use Rattle.row_laws.proofs.ItemLemmas.{item_at-append}
 use Rattle.survey_core.proofs.StandingLemmas.{standing-push, issued-push, commit_count, numbered-append, CitesUpTo, numbered-without, OfCommits, length-filter_map, filter_map-without, Each-events}
 use Rattle.survey_core.proofs.CitedLemmas.{greatest_within, ranked_by_cited}
 

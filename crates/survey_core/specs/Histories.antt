@@ -5,6 +5,8 @@ use Rattle.std.specs.Option.{option_map, option_map_or, option_and_then}
 use Rattle.std.specs.List.{list_any, filter_map, range_with_len}
 use Rattle.criteria_model.specs.declared.pairs.Pair.{Pair}
 use Rattle.criteria_model.specs.declared.pairs.Answer.{Answer}
+pub use Rattle.row_laws.specs.Items.{item_at}
+pub use Rattle.pair_enumeration.specs.Places.{class_at}
 use Rattle.survey_core.specs.declared.events.Event.{Event}
 use Rattle.survey_core.specs.declared.events.Event.TheVariants.{Eliminate, Commit, Close, Withdraw}
 use Rattle.survey_core.specs.Kinds.{eliminates, cites, issued_place, is_commit, commits, closes, is_withdraw}
@@ -44,18 +46,9 @@ issued history = filter_map issued_place history
 abbrev pub is_issued : List Event → ℕ → Bool
 is_issued history place = list_any (λ asked. asked == place) (issued history)
 
--- the item with a number, counted from 1; none has the number 0
-abbrev pub item_at : {X : Type 0} → List X → ℕ → Option X
-item_at items zero = None
-item_at items (suc k) = slice_get items k
-
 -- the place of the class that a question asks, by the places of all questions
 abbrev pub place_of : List ℕ → ℕ → Option ℕ
 place_of asked question = item_at asked question
-
--- the class at a place
-abbrev pub class_at : List Pair → ℕ → Option Pair
-class_at classes place = item_at classes place
 
 -- the class of a question
 abbrev pub class_of : List Pair → List ℕ → ℕ → Option Pair

@@ -6,7 +6,6 @@ ghost use Rattle.criteria_model.specs.Answers.{Ranks, MeetsAll};
 ghost use Rattle.criteria_model.specs.Pairs.{IsFit};
 ghost use Rattle.criteria_model.specs.Classes.{IsClass};
 ghost use Rattle.pair_enumeration.specs.Listed.{IsListed};
-ghost use Rattle.pair_enumeration.specs.Places.{StandsAt};
 ghost use Rattle.survey_core.specs.Histories.{issued, is_issued, place_of, class_at, committed, is_ranked, is_eliminated, open_questions, IsOpenQuestion, withdrawals as withdrawals_of};
 ghost use Rattle.survey_core.specs.Legal.{IsEvent, IsPlace, AreEarlierAsked, OpensClass, eliminate_parts, issue_parts, commit_parts, close_parts, withdraw_parts, parts, IsSpent, MayFollow, IsLegal};
 ghost use Rattle.survey_core.specs.Laws.{last_point};
@@ -413,7 +412,7 @@ impl Core {
     /// The place of a class, or none where the pair isn't a class of the model.
     pub fn place(&self, pair: &Pair) -> Option<u32>
         ensures some { IsSome result ↔ IsClass self.now.listed.criteria pair.now }
-        ensures found { IfSome result (λ place. StandsAt self.now.listed.classes place pair.now) }
+        ensures found { IfSome result (λ place. class_at self.now.listed.classes place ≡ Some pair.now) }
     {
         self.classes.place(pair)
     }

@@ -11,7 +11,7 @@ use Rattle.survey_core.specs.declared.events.Event.{Event}
 use Rattle.survey_core.specs.declared.events.Event.TheVariants.{Eliminate, Issue, Commit, Close, Withdraw}
 use Rattle.survey_core.specs.Kinds.{issued_place}
 use Rattle.survey_core.specs.Histories.{issued}
-use Rattle.survey_core.proofs.ItemLemmas.{item_at-append}
+use Rattle.row_laws.proofs.ItemLemmas.{item_at-append}
 use Rattle.std.proofs.lemmas.List.Elements.{filter_map-append}
 use Rattle.survey_replies.specs.Requests as request
 use Rattle.survey_core.proofs.ListSteps.{some_and, some_at, Each, Each-map, Each-All, All-Each, slice_get-append}

@@ -15,7 +15,7 @@ use Rattle.survey_core.specs.Histories.{item_at, standing, issued, is_unended, o
 use Rattle.survey_core.specs.Legal.{IsPlace, most_events}
 use Rattle.survey_core.specs.declared.limits.TheConstants.{MAX_EVENTS, MAX_OPEN_QUESTIONS}
 use Rattle.survey_core.proofs.ListSteps.{Each, some_and, filtered_range}
-use Rattle.survey_core.proofs.ItemLemmas.{item_found, item_within, item_inside}
+use Rattle.row_laws.proofs.ItemLemmas.{item_found, item_within, item_inside}
 use Rattle.survey_core.proofs.ReadLemmas.{contains_filtered}
 use Rattle.survey_core.proofs.StandingLemmas.{commit_count, OfCommits, length-filter_map}
 use Rattle.survey_core.proofs.SoundLemmas.{IsSound, sound_history, answers_count}

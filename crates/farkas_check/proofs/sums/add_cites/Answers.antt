@@ -1,9 +1,10 @@
-use Rattle.std.proofs.Common.{◌≡◌, ◌-◌, ◌≤◌, length, get_or, All, ℤ, unsigned_abs, to_z, of_z, ap, subst, sym, arith}
+use Rattle.std.proofs.Common.{◌≡◌, ◌-◌, ◌≤◌, length, get_or, All, ℤ, unsigned_abs, to_z, of_z, ap, subst, sym, ◌∙◌, arith}
 use Rattle.std.specs.Int.{w128}
 use Rattle.std.proofs.lemmas.Int.{to_z-of_z, fits_signed_from_abs}
+use Rattle.std.proofs.lemmas.List.{take_all}
 use Rattle.std.proofs.lemmas.Option.{slice_get_read}
 use Rattle.criteria_model.specs.declared.pairs.Answer.{Answer}
-use Rattle.row_laws.specs.Rows.{plus, times}
+use Rattle.row_laws.specs.Rows.{entry, plus, times}
 use Rattle.criteria_model.specs.Pairs.{IsFit}
 use Rattle.criteria_model.specs.Answers.{gain}
 use Rattle.criteria_model.specs.Lists.{IsRow}
@@ -12,7 +13,7 @@ use Rattle.farkas_check.specs.declared.cites.Cite.{Cite}
 use Rattle.farkas_check.specs.Cited.{IsCite, no_cite}
 use Rattle.farkas_check.specs.Sums.{cited_gain}
 use Rattle.farkas_check.specs.Proof.{IsThere}
-use Rattle.farkas_check.proofs.SumLemmas.{cited_gain-there, AreTotals-more}
+use Rattle.farkas_check.proofs.SumLemmas.{total, entry-total, cited_gain-there, AreTotals-more}
 use Rattle.farkas_check.proofs.sums.add_cites.Goals as goal
 
 -- ---- this turn's cite and its answer
@@ -53,3 +54,9 @@ loop-cite-preserved c =
     (AreTotals-more c.args.model.now.levels c.args.answers.now c.args.sums.now c.args.cites.now c.loop-cite.cite-index c.loop-cite.sums no_cite
     c.loop-cite.invariant c.loop-cite-test.true (is_cite c).within unit
     (omega (arith, ap length (gain_is c), length-gain c.args.model.now.levels (answer c).pair (answer c).side (is_fit c), c.requires.len, c.loop-cite.auto.sums)))
+
+pub returns : goal.returns
+returns c place =
+    let whole = take_all c.loop-cite.cite-index c.args.cites.now (omega (arith, c.loop-cite-test.false, c.loop-cite.auto)) in
+    ap (λ row. entry row place) (c.loop-cite.invariant.sum ∙ ap (total c.args.model.now.levels c.args.answers.now c.args.sums.now) whole)
+    ∙ entry-total c.args.model.now.levels c.args.answers.now c.args.sums.now c.args.cites.now place

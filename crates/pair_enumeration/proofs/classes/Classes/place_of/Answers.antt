@@ -1,7 +1,6 @@
-use Rattle.std.proofs.Common.{refl, sym, subst, true≢false}
+use Rattle.std.proofs.Common.{Some, refl, ap, sym, ◌∙◌, subst, true≢false}
 use Rattle.criteria_model.specs.Classes.{IsClass}
 use Rattle.pair_enumeration.specs.declared.flips.Flip.TheVariants.{Kept, Turned}
-use Rattle.pair_enumeration.specs.Places.{StandsAt}
 use Rattle.pair_enumeration.proofs.PlaceLemmas.{AreAlternatives, written_pair}
 use Rattle.pair_enumeration.proofs.PlaceLaws.{is_place_of, class_question, only_place, no_place, no_question, none_is}
 use Rattle.pair_enumeration.proofs.classes.Classes.place_of.Goals as goal
@@ -15,12 +14,12 @@ returns-in-Some-clause-some c =
 pub returns-in-Some-clause-found : goal.returns-in-Some-clause-found
 returns-in-Some-clause-found c =
     let h : AreAlternatives c.args.self.now.criteria.levels c.args.a.now c.args.b.now = record { first = c.requires.a_fits; second = c.requires.b_fits } in
-    is_place_of c.args.self.now c.args.a.now c.args.b.now c.in-Some.place Kept h (subst (StandsAt c.args.self.now.classes c.in-Some.place) c.cancelled_pair.ensures c.in-Some.ensures.found)
+    is_place_of c.args.self.now c.args.a.now c.args.b.now c.in-Some.place Kept h (c.in-Some.ensures.found ∙ ap Some c.cancelled_pair.ensures)
 
 pub returns-in-Some-clause-only : goal.returns-in-Some-clause-only
 returns-in-Some-clause-only c =
     let h : AreAlternatives c.args.self.now.criteria.levels c.args.a.now c.args.b.now = record { first = c.requires.a_fits; second = c.requires.b_fits } in
-    let p = is_place_of c.args.self.now c.args.a.now c.args.b.now c.in-Some.place Kept h (subst (StandsAt c.args.self.now.classes c.in-Some.place) c.cancelled_pair.ensures c.in-Some.ensures.found) in
+    let p = is_place_of c.args.self.now c.args.a.now c.args.b.now c.in-Some.place Kept h (c.in-Some.ensures.found ∙ ap Some c.cancelled_pair.ensures) in
     λ place flip q. only_place c.args.self.now c.args.a.now c.args.b.now c.in-Some.place place Kept flip c.in-Some.ensures.listed h p q
 
 pub returns-in_err-place-clause-some : goal.returns-in_err-place-clause-some
@@ -46,10 +45,10 @@ returns-clause-some c =
 pub returns-clause-found : goal.returns-clause-found
 returns-clause-found c =
     let h : AreAlternatives c.args.self.now.criteria.levels c.args.a.now c.args.b.now = record { first = c.requires.a_fits; second = c.requires.b_fits } in
-    is_place_of c.args.self.now c.args.a.now c.args.b.now c.in_ok-place.place Turned h (subst (StandsAt c.args.self.now.classes c.in_ok-place.place) c.cancelled_pair-2.ensures c.in_ok-place.ensures.found)
+    is_place_of c.args.self.now c.args.a.now c.args.b.now c.in_ok-place.place Turned h (c.in_ok-place.ensures.found ∙ ap Some c.cancelled_pair-2.ensures)
 
 pub returns-clause-only : goal.returns-clause-only
 returns-clause-only c =
     let h : AreAlternatives c.args.self.now.criteria.levels c.args.a.now c.args.b.now = record { first = c.requires.a_fits; second = c.requires.b_fits } in
-    let p = is_place_of c.args.self.now c.args.a.now c.args.b.now c.in_ok-place.place Turned h (subst (StandsAt c.args.self.now.classes c.in_ok-place.place) c.cancelled_pair-2.ensures c.in_ok-place.ensures.found) in
+    let p = is_place_of c.args.self.now c.args.a.now c.args.b.now c.in_ok-place.place Turned h (c.in_ok-place.ensures.found ∙ ap Some c.cancelled_pair-2.ensures) in
     λ place flip q. only_place c.args.self.now c.args.a.now c.args.b.now c.in_ok-place.place place Turned flip c.in_ok-place.ensures.listed h p q

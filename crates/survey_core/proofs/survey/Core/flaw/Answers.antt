@@ -17,4 +17,4 @@ returns c =
     subst (λ (r : Recorded). IsSomeAnd (class_at r.listed.classes c.args.place)
     (λ pair. IsFirstFlaw r.listed.criteria.levels (committed r.listed.classes r.history) c.args.combination.now pair c.args.verdict c.flaw.result)) c.self.view_is
     (flaw_at _ _ _ _ _ _ c.self.invariant c.model-model.result c.args.place c.class-pair.result c.args.combination.now c.args.verdict c.flaw.result
-    c.model-model.ensures.value (c.requires.place.0, c.class-pair.ensures.value) c.flaw.ensures)
+    c.model-model.ensures.value c.class-pair.ensures.value c.flaw.ensures)

@@ -19,7 +19,7 @@ returns-then-meets c =
     ↔ IsSomeAnd (class_at c.self.inside.classes.classes c.args.place)
     (λ pair. MeetsAll c.self.inside.classes.criteria.levels
     (committed c.self.inside.classes.classes (map (λ event. event.value) c.self.inside.events.items) ++ record { pair = pair; side = c.args.side } ∷ []) c.args.point.now) =
-    (meets_at _ _ _ _ _ _ c.self.invariant c.model-model.result c.args.place c.class-pair.result c.args.side c.args.point.now c.model-model.ensures.value (c.requires.place.0, c.class-pair.ensures.value)) in
+    (meets_at _ _ _ _ _ _ c.self.invariant c.model-model.result c.args.place c.class-pair.result c.args.side c.args.point.now c.model-model.ensures.value c.class-pair.ensures.value) in
     subst (λ (r : Recorded). IsTrue c.ranks.result ↔ IsSomeAnd (class_at r.listed.classes c.args.place)
     (λ pair. MeetsAll r.listed.criteria.levels (committed r.listed.classes r.history ++ record { pair = pair; side = c.args.side } ∷ []) c.args.point.now)) c.self.view_is
     ((λ h. both.0 (c.meets.ensures.0 c.if-meets.true, c.ranks.ensures.0 h)), (λ h. c.ranks.ensures.1 (both.1 h).1))
@@ -30,7 +30,7 @@ returns-else-meets c =
     ↔ IsSomeAnd (class_at c.self.inside.classes.classes c.args.place)
     (λ pair. MeetsAll c.self.inside.classes.criteria.levels
     (committed c.self.inside.classes.classes (map (λ event. event.value) c.self.inside.events.items) ++ record { pair = pair; side = c.args.side } ∷ []) c.args.point.now) =
-    (meets_at _ _ _ _ _ _ c.self.invariant c.model-model.result c.args.place c.class-pair.result c.args.side c.args.point.now c.model-model.ensures.value (c.requires.place.0, c.class-pair.ensures.value)) in
+    (meets_at _ _ _ _ _ _ c.self.invariant c.model-model.result c.args.place c.class-pair.result c.args.side c.args.point.now c.model-model.ensures.value c.class-pair.ensures.value) in
     subst (λ (r : Recorded). IsTrue c.meets.result ↔ IsSomeAnd (class_at r.listed.classes c.args.place)
     (λ pair. MeetsAll r.listed.criteria.levels (committed r.listed.classes r.history ++ record { pair = pair; side = c.args.side } ∷ []) c.args.point.now)) c.self.view_is
     ((λ h. absurd (let no_more : true ≡ false = sym h ∙ c.if-meets.false in cc)), (λ h. c.meets.ensures.1 (both.1 h).0))

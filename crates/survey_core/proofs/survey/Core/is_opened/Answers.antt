@@ -16,4 +16,4 @@ pub returns : goal.returns
 returns c =
     subst (λ (r : Recorded). IsTrue c.opens.result ↔ OpensClass r.listed r.history c.args.place c.args.plus.now c.args.minus.now) c.self.view_is
     (opens_at _ _ _ _ _ _ c.self.invariant c.model-model.result c.args.place c.class-pair.result c.args.plus.now c.args.minus.now c.opens.result
-    c.model-model.ensures.value (c.requires.place.0, c.class-pair.ensures.value) c.opens.ensures.opens)
+    c.model-model.ensures.value c.class-pair.ensures.value c.opens.ensures.opens)
