@@ -1,5 +1,6 @@
 -- Which of two lists of levels is higher somewhere, and what filling cancelled places changes.
 use Rattle.std.proofs.Common.{◌≡◌, ◌≢◌, ◌⊎◌, inl, inr, ℕ, zero, suc, ◌≤◌, ◌<◌, max, List, [], ◌∷◌, length, get_or, ap, sym, ◌∙◌, arith}
+use Rattle.std.proofs.lemmas.Bool.{cases_lt}
 use Rattle.std.proofs.lemmas.List.{get_or-map, length-map, ext_get_or}
 use Rattle.criteria_model.specs.declared.pairs.Pair.{Pair}
 use Rattle.criteria_model.specs.Alternatives.{filled, IsAtLeast, IsSomewhereHigher}
@@ -54,17 +55,12 @@ at_least_more : (x y : ℕ) (a b : List ℕ) → x ≤ y → IsAtLeast b a → I
 at_least_more x y a b h r zero l = h
 at_least_more x y a b h r (suc k) l = r k (omega arith)
 
-lt_or_le : (x y : ℕ) → (x < y) ⊎ (y ≤ x)
-lt_or_le x zero = inr (omega arith)
-lt_or_le zero (suc y) = inl (omega arith)
-lt_or_le (suc x) (suc y) = elim (lt_or_le x y) [ inl h ↦ inl (omega (arith, h)) | inr h ↦ inr (omega (arith, h)) ]
-
 pub higher_or_not : (a b : List ℕ) → length a ≡ length b → IsSomewhereHigher a b ⊎ IsAtLeast b a
 higher_or_not [] [] e = inr (λ k l. absurd (omega arith))
 higher_or_not [] (y ∷ b) e = absurd (omega arith)
 higher_or_not (x ∷ a) [] e = absurd (omega arith)
 higher_or_not (x ∷ a) (y ∷ b) e =
-    elim (lt_or_le y x) [
+    elim (cases_lt y x) [
       | inl h ↦ inl (0, omega arith, h)
       | inr h ↦ elim (higher_or_not a b (omega arith)) [
         | inl r ↦ inl (suc r.0, omega (arith, r.1), r.2)

@@ -1,5 +1,6 @@
 -- Two alternatives, their written pair and its class.
 use Rattle.std.proofs.Common.{◌≡◌, ◌≢◌, ◌⊎◌, inl, inr, ℕ, zero, suc, ◌+◌, ◌≤◌, ◌<◌, List, [], ◌∷◌, length, get_or, cond, eqb, true, false, Bool, refl, ap, ap₂, sym, ◌∙◌, subst, arith, eq-eqb, ne_eqb, eqb-true, ext_get_or}
+use Rattle.std.proofs.lemmas.Bool.{cases_eq, cases_order}
 use Rattle.criteria_model.specs.declared.pairs.Pair.{Pair}
 use Rattle.criteria_model.specs.Lists.{IsTuple}
 use Rattle.criteria_model.specs.Criteria.{Criteria}
@@ -8,21 +9,11 @@ use Rattle.criteria_model.specs.Pairs.{FitsAt, IsFit, IsCancelled, IsLeftFirst, 
 use Rattle.criteria_model.specs.Classes.{IsClass}
 use Rattle.criteria_model.proofs.DominanceLemmas.{written, written_turned, higher_filled, higher_unfilled}
 use Rattle.pair_enumeration.specs.Places.{cancelled, NeedsQuestion}
-use Rattle.pair_enumeration.proofs.TailClasses.{degree-same, degree-differs}
+use Rattle.pair_enumeration.proofs.TailClasses.{degree-same, degree-differs, first_later}
 
 -- the written pair of two alternatives
 abbrev pub written_pair : List ℕ → List ℕ → Pair
 written_pair a b = record { left = cancelled a b; right = cancelled b a }
-
-not_equal : (x y : ℕ) → eqb x y ≡ false → x ≢ y
-not_equal x y e h = let f = eq-eqb x y h in absurd cc
-
-eq_or_ne_at : (x y : ℕ) (t : Bool) → eqb x y ≡ t → (x ≡ y) ⊎ (x ≢ y)
-eq_or_ne_at x y true e = inl (eqb-true x y e)
-eq_or_ne_at x y false e = inr (not_equal x y e)
-
-eq_or_ne : (x y : ℕ) → (x ≡ y) ⊎ (x ≢ y)
-eq_or_ne x y = eq_or_ne_at x y (eqb x y) refl
 
 -- ---- the levels of a written pair
 pub length-cancelled : (a b : List ℕ) → length a ≡ length b → length (cancelled a b) ≡ length a
@@ -77,7 +68,7 @@ fits_at levels a b k h l =
     let e = same_len levels a b h in
     let la : k < length a = omega (arith, h.first.len) in
     let lb : k < length b = omega (arith, h.second.len) in
-    elim (eq_or_ne (get_or a k 0) (get_or b k 0)) [
+    elim (cases_eq (get_or a k 0) (get_or b k 0)) [
       | inl s ↦ inl (agrees a b k e la s, agrees b a k (sym e) lb (sym s))
       | inr n ↦
           let p = differs a b k e la n in
@@ -95,7 +86,7 @@ written_fits levels a b h = record {
 written_cancelled : (a b : List ℕ) → length a ≡ length b → IsCancelled (cancelled a b) (cancelled b a)
 written_cancelled a b e k l s =
     let la : k < length a = omega (arith, length-cancelled a b e) in
-    elim (eq_or_ne (get_or a k 0) (get_or b k 0)) [
+    elim (cases_eq (get_or a k 0) (get_or b k 0)) [
       | inl t ↦ agrees a b k e la t
       | inr n ↦ absurd (n (sym (differs a b k e la n) ∙ s ∙ differs b a k (sym e) (omega arith) (λ t. n (sym t))))
     ]
@@ -108,7 +99,7 @@ higher_written a b e (k, l, h) =
 written_higher : (a b : List ℕ) → length a ≡ length b → IsSomewhereHigher (cancelled a b) (cancelled b a) → IsSomewhereHigher a b
 written_higher a b e (k, l, h) =
     let la : k < length a = omega (arith, length-cancelled a b e) in
-    elim (eq_or_ne (get_or a k 0) (get_or b k 0)) [
+    elim (cases_eq (get_or a k 0) (get_or b k 0)) [
       | inl t ↦ absurd (omega (arith, h, agrees a b k e la t, agrees b a k (sym e) (omega arith) (sym t)))
       | inr n ↦ (k, la, omega (arith, h, differs a b k e la n, differs b a k (sym e) (omega arith) (λ t. n (sym t))))
     ]
@@ -118,7 +109,7 @@ degree-cancelled : (a b : List ℕ) → length a ≡ length b → degree (cancel
 degree-cancelled [] [] e = refl
 degree-cancelled [] (y ∷ b) e = absurd (omega arith)
 degree-cancelled (x ∷ a) [] e = absurd (omega arith)
-degree-cancelled (x ∷ a) (y ∷ b) e = elim (eq_or_ne x y) [
+degree-cancelled (x ∷ a) (y ∷ b) e = elim (cases_eq x y) [
   | inl s ↦
       let p : cond (eqb x y) 0 x ≡ 0 = ap (λ t. cond t 0 x) (eq-eqb x y s) in
       let q : cond (eqb y x) 0 y ≡ 0 = ap (λ t. cond t 0 y) (eq-eqb y x (sym s)) in
@@ -135,36 +126,24 @@ pub degree-turned : (a b : List ℕ) → length a ≡ length b → degree b a �
 degree-turned [] [] e = refl
 degree-turned [] (y ∷ b) e = absurd (omega arith)
 degree-turned (x ∷ a) [] e = absurd (omega arith)
-degree-turned (x ∷ a) (y ∷ b) e = elim (eq_or_ne x y) [
+degree-turned (x ∷ a) (y ∷ b) e = elim (cases_eq x y) [
   | inl s ↦ degree-same y x b a (sym s) ∙ degree-turned a b (omega arith) ∙ sym (degree-same x y a b s)
   | inr n ↦ degree-differs y x b a (λ s. n (sym s)) ∙ ap (λ d. 1 + d) (degree-turned a b (omega arith)) ∙ sym (degree-differs x y a b n)
 ]
 
 -- ---- which side is higher first
-equal_before : (x y : ℕ) (a b : List ℕ) (k : ℕ) → x ≡ y → ((j : ℕ) → j < k → get_or a j 0 ≡ get_or b j 0) → (j : ℕ) → j < suc k → get_or (x ∷ a) j 0 ≡ get_or (y ∷ b) j 0
-equal_before x y a b k e h zero l = e
-equal_before x y a b k e h (suc j) l = h j (omega arith)
-
-first_cons : (x y : ℕ) (a b : List ℕ) → x ≡ y → IsLeftFirst a b → IsLeftFirst (x ∷ a) (y ∷ b)
-first_cons x y a b e (k, l, h) = (suc k, omega arith, (equal_before x y a b k e h.0, h.1))
-
-three : (x y : ℕ) → (x < y) ⊎ ((x ≡ y) ⊎ (y < x))
-three zero zero = inr (inl refl)
-three zero (suc y) = inl (omega arith)
-three (suc x) zero = inr (inr (omega arith))
-three (suc x) (suc y) = elim (three x y) [ inl a ↦ inl (omega (arith, a)) | inr b ↦ elim b [ inl c ↦ inr (inl (ap suc c)) | inr d ↦ inr (inr (omega (arith, d))) ] ]
 
 first_of_two : (a b : List ℕ) → length a ≡ length b → (a ≡ b) ⊎ (IsLeftFirst a b ⊎ IsLeftFirst b a)
 first_of_two [] [] e = inl refl
 first_of_two [] (y ∷ b) e = absurd (omega arith)
 first_of_two (x ∷ a) [] e = absurd (omega arith)
-first_of_two (x ∷ a) (y ∷ b) e = elim (three x y) [
-  | inl less ↦ inr (inr (0, omega arith, (λ j m. absurd (omega (arith, m)), less)))
-  | inr more ↦ elim more [
-    | inl same ↦ elim (first_of_two a b (omega arith)) [
-      | inl s ↦ inl (ap₂ (λ z zs. z ∷ zs) same s)
-      | inr f ↦ elim f [ inl p ↦ inr (inl (first_cons x y a b same p)) | inr q ↦ inr (inr (first_cons y x b a (sym same) q)) ]
-    ]
+first_of_two (x ∷ a) (y ∷ b) e = elim (cases_order x y) [
+  | inl same ↦ elim (first_of_two a b (omega arith)) [
+    | inl s ↦ inl (ap₂ (λ z zs. z ∷ zs) same s)
+    | inr f ↦ elim f [ inl p ↦ inr (inl (first_later x y a b same p)) | inr q ↦ inr (inr (first_later y x b a (sym same) q)) ]
+  ]
+  | inr apart ↦ elim apart [
+    | inl less ↦ inr (inr (0, omega arith, (λ j m. absurd (omega (arith, m)), less)))
     | inr above ↦ inr (inl (0, omega arith, (λ j m. absurd (omega (arith, m)), above)))
   ]
 ]
@@ -181,10 +160,10 @@ first_written a b e (k, l, h) =
     )
 
 first_not_both : (a b : List ℕ) → IsLeftFirst a b → IsLeftFirst b a → ⊥
-first_not_both a b (k, l, h) (j, m, g) = elim (three k j) [
-  | inl less ↦ omega (arith, h.1, g.0 k less)
-  | inr more ↦ elim more [
-    | inl same ↦ omega (arith, h.1, subst (λ i. get_or a i 0 < get_or b i 0) (sym same) g.1)
+first_not_both a b (k, l, h) (j, m, g) = elim (cases_order k j) [
+  | inl same ↦ omega (arith, h.1, subst (λ i. get_or a i 0 < get_or b i 0) (sym same) g.1)
+  | inr apart ↦ elim apart [
+    | inl less ↦ omega (arith, h.1, g.0 k less)
     | inr above ↦ omega (arith, g.1, h.0 j above)
   ]
 ]
@@ -240,7 +219,7 @@ class_needs_question criteria a b h c =
 
 -- ---- replicas
 replica_at : (a b : List ℕ) (k : ℕ) → length a ≡ length b → k < length a → AreReplicasAt (written_pair a b) (record { left = a; right = b }) k
-replica_at a b k e l = elim (eq_or_ne (get_or a k 0) (get_or b k 0)) [
+replica_at a b k e l = elim (cases_eq (get_or a k 0) (get_or b k 0)) [
   | inl s ↦ inl (agrees a b k e l s ∙ sym (agrees b a k (sym e) (omega arith) (sym s)), s)
   | inr n ↦ inr (differs a b k e l n, differs b a k (sym e) (omega arith) (λ t. n (sym t)))
 ]
@@ -265,7 +244,7 @@ left_at levels a b pair k h fits zeros (inl both) l =
     (z ∙ sym (agrees a b k e (omega (arith, h.first.len)) both.1), sym both.0 ∙ z ∙ sym (agrees b a k (sym e) (omega (arith, h.second.len)) (sym both.1)))
 left_at levels a b pair k h fits zeros (inr same) l =
     let e = same_len levels a b h in
-    elim (eq_or_ne (get_or a k 0) (get_or b k 0)) [
+    elim (cases_eq (get_or a k 0) (get_or b k 0)) [
       | inl s ↦
           let z = zeros k (omega (arith, fits.left_len)) (same.0 ∙ s ∙ sym same.1) in
           absurd (omega (arith, z, same.0, h.first.low k l))

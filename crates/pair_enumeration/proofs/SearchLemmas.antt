@@ -1,5 +1,6 @@
 -- The search for a pair in the ordered list of classes.
 use Rattle.std.proofs.Common.{◌≡◌, ◌≢◌, ◌⊎◌, ◌↔◌, inl, inr, ℕ, zero, suc, ◌+◌, ◌-◌, ◌≤◌, ◌<◌, List, [], ◌∷◌, length, drop, zip, get_or, ltb, IsTrue, AllPairs, refl, ap, ap₂, sym, ◌∙◌, subst, subst₂, arith, lt-ltb, ltb-true, nat_cmp, Ordering, Less, Equal, Greater, drop-cons, Contains, slice_get, Some, eq-or-lt_of_le}
+use Rattle.std.proofs.lemmas.Bool.{cases_order}
 use Rattle.std.specs.Ordering.{ordering_then, ordering_reverse}
 use Rattle.std.specs.Cmp.{nat_cmp_is}
 use Rattle.std.specs.Cmp.Lexicographic.{slice_cmp, nat_list_cmp_total}
@@ -92,20 +93,14 @@ cmp_greater x y h = sym (nat_cmp_is x y Greater h)
 greater_not_less : Greater ≡ Less → ⊥
 greater_not_less e = cc
 
-eq_lt_gt : (x y : ℕ) → (x < y) ⊎ ((x ≡ y) ⊎ (y < x))
-eq_lt_gt zero zero = inr (inl refl)
-eq_lt_gt zero (suc y) = inl (omega arith)
-eq_lt_gt (suc x) zero = inr (inr (omega arith))
-eq_lt_gt (suc x) (suc y) = elim (eq_lt_gt x y) [ inl a ↦ inl (omega (arith, a)) | inr b ↦ elim b [ inl c ↦ inr (inl (ap suc c)) | inr d ↦ inr (inr (omega (arith, d))) ] ]
-
 -- a test that decides an order at two numbers that differ
 pub decided : (x y : ℕ) (rest whole : Ordering) → x ≢ y → ordering_then (nat_cmp x y) rest ≡ whole → IsTrue (ltb x y) ↔ (whole ≡ Less)
 decided x y rest whole n e = (
   λ t. sym e ∙ ap (λ o. ordering_then o rest) (cmp_less x y (ltb-true x y t)),
-  λ h. elim (eq_lt_gt x y) [
-    | inl less ↦ lt-ltb x y less
-    | inr more ↦ elim more [
-      | inl same ↦ absurd (n same)
+  λ h. elim (cases_order x y) [
+    | inl same ↦ absurd (n same)
+    | inr apart ↦ elim apart [
+      | inl less ↦ lt-ltb x y less
       | inr above ↦ absurd (greater_not_less (sym (ap (λ o. ordering_then o rest) (cmp_greater x y above)) ∙ e ∙ h))
     ]
   ],
@@ -122,20 +117,20 @@ found_at pairs pair low l e =
     item_of pairs (low + 1) pair (omega arith) (ap (slice_get pairs) k ∙ slice_get-get_or pairs low pair l ∙ ap Some e)
 
 pub nowhere : (pairs : List Pair) (pair : Pair) (low high : ℕ) → IsNotOutside pairs pair low high → high ≤ low → (low < length pairs → get_or pairs low pair ≢ pair) → ¬ Contains pairs pair
-nowhere pairs pair low high h l n (k, m, e) = elim (eq_lt_gt k low) [
-  | inl less ↦ h.below k less e
-  | inr more ↦ elim more [
-    | inl same ↦ n (omega (arith, m, same)) (ap (λ j. get_or pairs j pair) (sym same) ∙ e)
+nowhere pairs pair low high h l n (k, m, e) = elim (cases_order k low) [
+  | inl same ↦ n (omega (arith, m, same)) (ap (λ j. get_or pairs j pair) (sym same) ∙ e)
+  | inr apart ↦ elim apart [
+    | inl less ↦ h.below k less e
     | inr above ↦ h.above k (omega (arith, above, h.low_high)) m e
   ]
 ]
 
 -- a pair stands at one place only
 same_place : (pairs : List Pair) (i j : ℕ) (pair : Pair) → AllPairs ComesBefore pairs → i < length pairs → j < length pairs → get_or pairs i pair ≡ pair → get_or pairs j pair ≡ pair → i ≡ j
-same_place pairs i j pair ordered a b e f = elim (eq_lt_gt i j) [
-  | inl less ↦ absurd (not_before_itself pair (subst₂ ComesBefore e f (ordered i j pair less b)))
-  | inr more ↦ elim more [
-    | inl same ↦ same
+same_place pairs i j pair ordered a b e f = elim (cases_order i j) [
+  | inl same ↦ same
+  | inr apart ↦ elim apart [
+    | inl less ↦ absurd (not_before_itself pair (subst₂ ComesBefore e f (ordered i j pair less b)))
     | inr above ↦ absurd (not_before_itself pair (subst₂ ComesBefore f e (ordered j i pair above a)))
   ]
 ]

@@ -75,7 +75,7 @@ same_later : (x y : ℕ) (a b : List ℕ) (k : ℕ) → x ≡ y → ((j : ℕ) �
 same_later x y a b k e h zero l = e
 same_later x y a b k e h (suc j) l = h j (omega arith)
 
-first_later : (x y : ℕ) (a b : List ℕ) → x ≡ y → IsLeftFirst a b → IsLeftFirst (x ∷ a) (y ∷ b)
+pub first_later : (x y : ℕ) (a b : List ℕ) → x ≡ y → IsLeftFirst a b → IsLeftFirst (x ∷ a) (y ∷ b)
 first_later x y a b e (k, l, h) = (suc k, omega arith, (same_later x y a b k e h.0, h.1))
 
 first_at : (x y : ℕ) (a b : List ℕ) (k : ℕ) → x ≡ y → k < length (x ∷ a) → ((j : ℕ) → j < k → get_or (x ∷ a) j 0 ≡ get_or (y ∷ b) j 0) → get_or (y ∷ b) k 0 < get_or (x ∷ a) k 0 → IsLeftFirst a b
