@@ -15,6 +15,7 @@ use Rattle.survey_core.specs.Legal.{IsEvent, MayFollow, IsLegal}
 use Rattle.survey_core.proofs.NamedParts.{MayCommit, MayWithdraw, HasParts, named}
 use Rattle.survey_core.specs.Laws.{IsShort}
 use Rattle.survey_core.specs.Marked.{Table, is_ranked_mark, KeepsHistory}
+use Rattle.row_laws.proofs.ItemLemmas.{item_of}
 use Rattle.survey_core.proofs.ListSteps.{slice_get_inside, take_next, take_whole}
 use Rattle.survey_core.proofs.NewLemmas.{new_kept}
 use Rattle.survey_core.proofs.NextKept.{asked_within, question_found, asks_question, asked_class, commit_room, kept_eliminate, kept_issue, kept_commit_at, kept_close, kept_withdraw}
@@ -47,7 +48,7 @@ module _ (listed : Listed) (history : List Event) (now : Keeps listed history) w
         withdrawn = now.withdrawn;
         kept =
             kept_commit_at _ _ _ _ _ _ now.kept desk number side plus minus point place (length now.answers.answers) class.0 after
-            is may asks refl class.1 refl (omega (arith, spare, length-append now.answers.answers (given ∷ [])));
+            is may asks refl (item_of listed.classes place class.0 here.0 class.1) refl (omega (arith, spare, length-append now.answers.answers (given ∷ [])));
       }
 
   keeps_withdraw : (desk n : ℕ) → IsEvent listed.criteria.levels (Withdraw desk n) → MayWithdraw listed history n → Keeps listed (history ++ Withdraw desk n ∷ [])
