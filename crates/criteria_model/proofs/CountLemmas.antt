@@ -65,7 +65,8 @@ classes_of_degree_small counts d few l =
 pub range_with_len-more : (a n : ℕ) → range_with_len a (n + 1) ≡ range_with_len a n ++ (a + n) ∷ []
 range_with_len-more a n = sym (map-id _) ∙ map-range_with_len_more (λ x. x) a n (a + n) refl ∙ ap (λ r. r ++ (a + n) ∷ []) (map-id _)
 
-pub count-more : (counts : List ℕ) (degree : ℕ) → 2 ≤ degree → sum_by (classes_of_degree counts) (range_with_len 2 (degree + 1 - 2)) ≡ sum_by (classes_of_degree counts) (range_with_len 2 (degree - 2)) + classes_of_degree counts degree
+pub count-more : (counts : List ℕ) (degree : ℕ) → 2 ≤ degree
+    → sum_by (classes_of_degree counts) (range_with_len 2 (degree + 1 - 2)) ≡ sum_by (classes_of_degree counts) (range_with_len 2 (degree - 2)) + classes_of_degree counts degree
 count-more counts degree l =
     let e : degree + 1 - 2 ≡ degree - 2 + 1 = omega arith in
     let f : 2 + (degree - 2) ≡ degree = omega arith in
@@ -81,5 +82,6 @@ drop-back xs (suc left) h l =
     rw e (drop-cons xs left 0 (omega arith))
 
 -- a term of the count, as the code computes it
-pub term_is : (counts : List ℕ) (d power pairs : ℕ) → power ≡ 2 ^ (d - 1) → pairs ≡ level_pairs d counts → (power - 1) * pairs ≡ classes_of_degree counts d
+pub term_is : (counts : List ℕ) (d power pairs : ℕ) → power ≡ 2 ^ (d - 1) → pairs ≡ level_pairs d counts
+    → (power - 1) * pairs ≡ classes_of_degree counts d
 term_is counts d power pairs e f = ap₂ (λ x y. (x - 1) * y) e f

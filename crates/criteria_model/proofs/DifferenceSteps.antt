@@ -23,7 +23,8 @@ pub record IsStep (counts high low : List ℕ) (i at steps : ℕ) (cells new : L
 fits : (counts high low : List ℕ) (i at steps : ℕ) (cells new : List ℤ) → IsStep counts high low i at steps cells new → at + steps ≤ 24
 fits counts high low i at steps cells new s = omega (arith, s.at_is, s.steps_is, s.few, sum_by_more_le (λ n. n - 1) counts i 0 s.more)
 
-part_len : (counts high low : List ℕ) (i at steps : ℕ) (cells new : List ℤ) → IsStep counts high low i at steps cells new → length (take (at + steps - at) (drop at cells)) ≡ steps
+part_len : (counts high low : List ℕ) (i at steps : ℕ) (cells new : List ℤ) → IsStep counts high low i at steps cells new
+    → length (take (at + steps - at) (drop at cells)) ≡ steps
 part_len counts high low i at steps cells new s = simp (length-take, length-drop) (omega (arith, s.len, fits counts high low i at steps cells new s))
 
 new_is : (counts high low : List ℕ) (i at steps : ℕ) (cells new : List ℤ) → IsStep counts high low i at steps cells new
@@ -36,11 +37,13 @@ new_len : (counts high low : List ℕ) (i at steps : ℕ) (cells new : List ℤ)
 new_len counts high low i at steps cells new s =
     omega (arith, s.steps_is, ap length (new_is counts high low i at steps cells new s), length-minus (has_on (get_or counts i 0) (get_or high i 0)) (has_on (get_or counts i 0) (get_or low i 0)), length-has_on (get_or counts i 0) (get_or high i 0), length-has_on (get_or counts i 0) (get_or low i 0))
 
-pub step_len : (counts high low : List ℕ) (i at steps : ℕ) (cells new : List ℤ) → IsStep counts high low i at steps cells new → length (put_mid at (at + steps - at) cells new) ≡ 24
+pub step_len : (counts high low : List ℕ) (i at steps : ℕ) (cells new : List ℤ) → IsStep counts high low i at steps cells new
+    → length (put_mid at (at + steps - at) cells new) ≡ 24
 step_len counts high low i at steps cells new s =
     same_len_mid at (at + steps - at) cells new (new_len counts high low i at steps cells new s ∙ sym (part_len counts high low i at steps cells new s)) ∙ s.len
 
-pub step_at : (counts high low : List ℕ) (i at steps : ℕ) (cells new : List ℤ) → IsStep counts high low i at steps cells new → at + steps ≡ increments (take (i + 1) counts)
+pub step_at : (counts high low : List ℕ) (i at steps : ℕ) (cells new : List ℤ) → IsStep counts high low i at steps cells new
+    → at + steps ≡ increments (take (i + 1) counts)
 step_at counts high low i at steps cells new s = omega (arith, s.at_is, s.steps_is, sum_by_more (λ n. n - 1) counts i 0 s.more)
 
 pub step_written : (counts high low : List ℕ) (i at steps : ℕ) (cells new : List ℤ) → IsStep counts high low i at steps cells new

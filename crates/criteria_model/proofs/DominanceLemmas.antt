@@ -99,7 +99,8 @@ filled_same levels a b w n m =
     let e : length a ≡ length b = w.len ∙ sym w.other_len in
     ap filled (same_if_at_least a b e (not_higher b a (sym e) m) (not_higher a b e n))
 
-pub filled_higher : (levels a b : List ℕ) → AreWritten levels a b → IsSomewhereHigher a b → ¬ IsSomewhereHigher b a → (filled a ≢ filled b) × IsAtLeast (filled a) (filled b)
+pub filled_higher : (levels a b : List ℕ) → AreWritten levels a b → IsSomewhereHigher a b → ¬ IsSomewhereHigher b a
+    → (filled a ≢ filled b) × IsAtLeast (filled a) (filled b)
 filled_higher levels a b w h n =
     let e : length a ≡ length b = w.len ∙ sym w.other_len in
     let f : length (filled b) ≡ length (filled a) = length-filled b ∙ sym e ∙ sym (length-filled a) in (

@@ -25,11 +25,14 @@ next_sum_is s x f h k =
     let p : SFits w128 (x *ℤ f) = fits_signed_from_abs w128 (x *ℤ f) (omega (arith, term_size x f h k)) in
     rw (term_is x f h k) (rw (to_z-of_z w128 (x *ℤ f) p) refl)
 
-pub next_sum_size : (n : ℕ) (s x f : ℤ) → unsigned_abs s ≤ n * 2 ^ 96 → unsigned_abs x < 2 ^ 96 → unsigned_abs f ≤ 1 → unsigned_abs (s +ℤ x *ℤ f) ≤ (n + 1) * 2 ^ 96
+pub next_sum_size : (n : ℕ) (s x f : ℤ) → unsigned_abs s ≤ n * 2 ^ 96 → unsigned_abs x < 2 ^ 96 → unsigned_abs f ≤ 1
+    → unsigned_abs (s +ℤ x *ℤ f) ≤ (n + 1) * 2 ^ 96
 next_sum_size n s x f g h k = omega (arith, unsigned_abs-add s (x *ℤ f), term_size x f h k)
 
-pub next_sum_fits : (n : ℕ) (s x f : ℤ) → n < 24 → unsigned_abs s ≤ n * 2 ^ 96 → unsigned_abs x < 2 ^ 96 → unsigned_abs f ≤ 1 → SFits w128 (next_sum s x f)
+pub next_sum_fits : (n : ℕ) (s x f : ℤ) → n < 24 → unsigned_abs s ≤ n * 2 ^ 96 → unsigned_abs x < 2 ^ 96 → unsigned_abs f ≤ 1
+    → SFits w128 (next_sum s x f)
 next_sum_fits n s x f l g h k = rw (next_sum_is s x f h k) (fits_signed_from_abs w128 (s +ℤ x *ℤ f) (omega (arith, next_sum_size n s x f g h k)))
 
-pub total_is : (n : ℕ) (s x f : ℤ) → n < 24 → unsigned_abs s ≤ n * 2 ^ 96 → unsigned_abs x < 2 ^ 96 → unsigned_abs f ≤ 1 → to_z w128 (of_z w128 (next_sum s x f)) ≡ s +ℤ x *ℤ f
+pub total_is : (n : ℕ) (s x f : ℤ) → n < 24 → unsigned_abs s ≤ n * 2 ^ 96 → unsigned_abs x < 2 ^ 96 → unsigned_abs f ≤ 1
+    → to_z w128 (of_z w128 (next_sum s x f)) ≡ s +ℤ x *ℤ f
 total_is n s x f l g h k = to_z-of_z w128 (next_sum s x f) (next_sum_fits n s x f l g h k) ∙ next_sum_is s x f h k

@@ -20,7 +20,8 @@ length-gain levels pair Left h = length-minus-has levels pair.left pair.right h.
 length-gain levels pair Right h = length-minus-has levels pair.right pair.left h.right_len h.left_len
 length-gain levels pair Equal h = length-minus-has levels pair.left pair.right h.left_len h.right_len
 
-pub gain-fits : (criteria : Criteria) (pair : Pair) (side : Side) → IsModel criteria → IsFit criteria.levels pair → IsRow (gain criteria.levels pair side)
+pub gain-fits : (criteria : Criteria) (pair : Pair) (side : Side) → IsModel criteria → IsFit criteria.levels pair
+    → IsRow (gain criteria.levels pair side)
 gain-fits m pair Left k h = minus-has-fits m.levels pair.left pair.right k.some k.two_levels k.few_increments h.left_len h.right_len
 gain-fits m pair Right k h = minus-has-fits m.levels pair.right pair.left k.some k.two_levels k.few_increments h.right_len h.left_len
 gain-fits m pair Equal k h = minus-has-fits m.levels pair.left pair.right k.some k.two_levels k.few_increments h.left_len h.right_len
@@ -31,12 +32,14 @@ Favours Left x = pos 1 ≤ℤ x
 Favours Right x = pos 1 ≤ℤ x
 Favours Equal x = x ≡ pos 0
 
-pub ranks_favours : (levels : List ℕ) (values : List ℤ) (pair : Pair) (side : Side) → Ranks levels values pair side → Favours side (dot values (gain levels pair side))
+pub ranks_favours : (levels : List ℕ) (values : List ℤ) (pair : Pair) (side : Side) → Ranks levels values pair side
+    → Favours side (dot values (gain levels pair side))
 ranks_favours levels values pair Left h = omega (arith, ints, h, dot-minus values (has levels pair.left) (has levels pair.right))
 ranks_favours levels values pair Right h = omega (arith, ints, h, dot-minus values (has levels pair.right) (has levels pair.left))
 ranks_favours levels values pair Equal h = omega (arith, ints, h, dot-minus values (has levels pair.left) (has levels pair.right))
 
-pub favours_ranks : (levels : List ℕ) (values : List ℤ) (pair : Pair) (side : Side) → Favours side (dot values (gain levels pair side)) → Ranks levels values pair side
+pub favours_ranks : (levels : List ℕ) (values : List ℤ) (pair : Pair) (side : Side) → Favours side (dot values (gain levels pair side))
+    → Ranks levels values pair side
 favours_ranks levels values pair Left h = omega (arith, ints, h, dot-minus values (has levels pair.left) (has levels pair.right))
 favours_ranks levels values pair Right h = omega (arith, ints, h, dot-minus values (has levels pair.right) (has levels pair.left))
 favours_ranks levels values pair Equal h = omega (arith, ints, h, dot-minus values (has levels pair.left) (has levels pair.right))
@@ -62,9 +65,33 @@ worths_apart : (levels : List ℕ) (values : List ℤ) (p q : Pair) → AreRepli
 worths_apart levels values p q r = ap (dot values) (replicas_gain_same_lem levels p q Left r)
 
 pub replicas_rank_same_lem : ReplicasRankSame
-replicas_rank_same_lem levels values p q Left r h = omega (arith, ints, h, worths_apart levels values p q r, dot-minus values (has levels p.left) (has levels p.right), dot-minus values (has levels q.left) (has levels q.right))
-replicas_rank_same_lem levels values p q Right r h = omega (arith, ints, h, worths_apart levels values p q r, dot-minus values (has levels p.left) (has levels p.right), dot-minus values (has levels q.left) (has levels q.right))
-replicas_rank_same_lem levels values p q Equal r h = omega (arith, ints, h, worths_apart levels values p q r, dot-minus values (has levels p.left) (has levels p.right), dot-minus values (has levels q.left) (has levels q.right))
+replicas_rank_same_lem levels values p q Left r h =
+    omega (
+      arith,
+      ints,
+      h,
+      worths_apart levels values p q r,
+      dot-minus values (has levels p.left) (has levels p.right),
+      dot-minus values (has levels q.left) (has levels q.right),
+    )
+replicas_rank_same_lem levels values p q Right r h =
+    omega (
+      arith,
+      ints,
+      h,
+      worths_apart levels values p q r,
+      dot-minus values (has levels p.left) (has levels p.right),
+      dot-minus values (has levels q.left) (has levels q.right),
+    )
+replicas_rank_same_lem levels values p q Equal r h =
+    omega (
+      arith,
+      ints,
+      h,
+      worths_apart levels values p q r,
+      dot-minus values (has levels p.left) (has levels p.right),
+      dot-minus values (has levels q.left) (has levels q.right),
+    )
 
 -- ---- which way values rank a pair, by the lead of its left side
 abbrev pub Leads : Side → ℤ → Type 0
@@ -77,18 +104,22 @@ module _ (levels : List ℕ) (values : List ℤ) (pair : Pair) (lead : ℤ) (lea
   worths : dot values (minus (has levels pair.left) (has levels pair.right)) ≡ dot values (has levels pair.left) -ℤ dot values (has levels pair.right)
   worths = dot-minus values (has levels pair.left) (has levels pair.right)
 
-  pub leads_ranks : (side : Side) → Leads side lead → Ranks levels values pair side
-  leads_ranks Left h = omega (arith, ints, h, worths, lead_is)
-  leads_ranks Right h = omega (arith, ints, h, worths, lead_is)
-  leads_ranks Equal h = omega (arith, ints, h, worths, lead_is)
+  ranks : (side : Side) → Leads side lead → Ranks levels values pair side
+  ranks Left h = omega (arith, ints, h, worths, lead_is)
+  ranks Right h = omega (arith, ints, h, worths, lead_is)
+  ranks Equal h = omega (arith, ints, h, worths, lead_is)
 
-  pub leads_only : (side other : Side) → Leads side lead → Ranks levels values pair other → other ≡ side
-  leads_only Left Left h r = refl
-  leads_only Right Right h r = refl
-  leads_only Equal Equal h r = refl
-  leads_only Left Right h r = absurd (omega (arith, ints, h, r, worths, lead_is))
-  leads_only Left Equal h r = absurd (omega (arith, ints, h, r, worths, lead_is))
-  leads_only Right Left h r = absurd (omega (arith, ints, h, r, worths, lead_is))
-  leads_only Right Equal h r = absurd (omega (arith, ints, h, r, worths, lead_is))
-  leads_only Equal Left h r = absurd (omega (arith, ints, h, r, worths, lead_is))
-  leads_only Equal Right h r = absurd (omega (arith, ints, h, r, worths, lead_is))
+  only : (side other : Side) → Leads side lead → Ranks levels values pair other → other ≡ side
+  only Left Left h r = refl
+  only Right Right h r = refl
+  only Equal Equal h r = refl
+  only Left Right h r = absurd (omega (arith, ints, h, r, worths, lead_is))
+  only Left Equal h r = absurd (omega (arith, ints, h, r, worths, lead_is))
+  only Right Left h r = absurd (omega (arith, ints, h, r, worths, lead_is))
+  only Right Equal h r = absurd (omega (arith, ints, h, r, worths, lead_is))
+  only Equal Left h r = absurd (omega (arith, ints, h, r, worths, lead_is))
+  only Equal Right h r = absurd (omega (arith, ints, h, r, worths, lead_is))
+
+  -- the side that the lead names, and no other
+  pub lead_ranks : (side : Side) → Leads side lead → Ranks levels values pair side × ((other : Side) → Ranks levels values pair other → other ≡ side)
+  lead_ranks side h = (ranks side h, λ other. only side other h)

@@ -25,7 +25,8 @@ length-has (n ∷ levels) [] e = absurd (omega arith)
 length-has (n ∷ levels) (level ∷ alternative) e =
     omega (arith, length-append (has_on n level) (has levels alternative), length-has_on n level, length-has levels alternative (omega arith), increments-cons n levels)
 
-pub has-append : (levels more alternative rest : List ℕ) → length alternative ≡ length levels → has (levels ++ more) (alternative ++ rest) ≡ has levels alternative ++ has more rest
+pub has-append : (levels more alternative rest : List ℕ) → length alternative ≡ length levels
+    → has (levels ++ more) (alternative ++ rest) ≡ has levels alternative ++ has more rest
 has-append [] more [] rest e = refl
 has-append [] more (x ∷ alternative) rest e = absurd (omega arith)
 has-append (n ∷ levels) more [] rest e = absurd (omega arith)
@@ -55,7 +56,8 @@ has_on-more n level =
     let f : n + 1 - 1 ≡ n = omega arith in
     rw (e, f) (map-range_with_len_more (lies_above level) 1 n (n + 1) (omega arith))
 
-pub minus-has_on-more : (n high low : ℕ) → minus (has_on (n + 1 + 1) high) (has_on (n + 1 + 1) low) ≡ minus (has_on (n + 1) high) (has_on (n + 1) low) ++ (lies_above high (n + 1) -ℤ lies_above low (n + 1)) ∷ []
+pub minus-has_on-more : (n high low : ℕ)
+    → minus (has_on (n + 1 + 1) high) (has_on (n + 1 + 1) low) ≡ minus (has_on (n + 1) high) (has_on (n + 1) low) ++ (lies_above high (n + 1) -ℤ lies_above low (n + 1)) ∷ []
 minus-has_on-more n high low =
     rw (has_on-more n high, has_on-more n low)
     (minus-append (has_on (n + 1) high) (lies_above high (n + 1) ∷ []) (has_on (n + 1) low) (lies_above low (n + 1) ∷ []) (omega (arith, length-has_on (n + 1) high, length-has_on (n + 1) low)))
@@ -63,7 +65,8 @@ minus-has_on-more n high low =
 has-one : (n level : ℕ) → has (n ∷ []) (level ∷ []) ≡ has_on n level
 has-one n level = append-nil (has_on n level)
 
-pub has-take_more : (counts alternative : List ℕ) (i : ℕ) → i < length counts → length alternative ≡ length counts → has (take (i + 1) counts) (take (i + 1) alternative) ≡ has (take i counts) (take i alternative) ++ has_on (get_or counts i 0) (get_or alternative i 0)
+pub has-take_more : (counts alternative : List ℕ) (i : ℕ) → i < length counts → length alternative ≡ length counts
+    → has (take (i + 1) counts) (take (i + 1) alternative) ≡ has (take i counts) (take i alternative) ++ has_on (get_or counts i 0) (get_or alternative i 0)
 has-take_more counts alternative i l e =
     rw (take_more counts i 0 l, take_more alternative i 0 (omega arith))
     (has-append (take i counts) (get_or counts i 0 ∷ []) (take i alternative) (get_or alternative i 0 ∷ []) (simp length-take (omega arith))
@@ -112,10 +115,12 @@ minus-bits (x ∷ a) (y ∷ b) e h g zero d l =
     omega (arith, ints, p.low, p.high, q.low, q.high)
 minus-bits (x ∷ a) (y ∷ b) e h g (suc k) d l = minus-bits a b (omega arith) (λ j c m. h (suc j) c (omega arith)) (λ j c m. g (suc j) c (omega arith)) k d (omega arith)
 
-pub length-minus-has : (levels high low : List ℕ) → length high ≡ length levels → length low ≡ length levels → length (minus (has levels high) (has levels low)) ≡ increments levels
+pub length-minus-has : (levels high low : List ℕ) → length high ≡ length levels → length low ≡ length levels
+    → length (minus (has levels high) (has levels low)) ≡ increments levels
 length-minus-has levels high low e f = omega (arith, length-minus (has levels high) (has levels low), length-has levels high e, length-has levels low f)
 
-pub minus-has-fits : (levels high low : List ℕ) → 1 ≤ length levels → All (λ n. 2 ≤ n) levels → increments levels ≤ 24 → length high ≡ length levels → length low ≡ length levels → IsRow (minus (has levels high) (has levels low))
+pub minus-has-fits : (levels high low : List ℕ) → 1 ≤ length levels → All (λ n. 2 ≤ n) levels → increments levels ≤ 24 → length high ≡ length levels
+    → length low ≡ length levels → IsRow (minus (has levels high) (has levels low))
 minus-has-fits levels high low some two few e f = record {
   some = omega (arith, length-minus-has levels high low e f, length-le-increments levels two);
   most = omega (arith, length-minus-has levels high low e f);
@@ -157,7 +162,8 @@ pub record AreMatched (levels a b c d : List ℕ) : Type 0 where
   pub fourth : length d ≡ length levels
   pub places : (k : ℕ) → k < length levels → MatchesAt (get_or a k 0) (get_or b k 0) (get_or c k 0) (get_or d k 0)
 
-pub minus-has-matched : (levels a b c d : List ℕ) → AreMatched levels a b c d → minus (has levels a) (has levels b) ≡ minus (has levels c) (has levels d)
+pub minus-has-matched : (levels a b c d : List ℕ) → AreMatched levels a b c d
+    → minus (has levels a) (has levels b) ≡ minus (has levels c) (has levels d)
 minus-has-matched [] a b c d m = refl
 minus-has-matched (n ∷ levels) [] b c d m = absurd (omega (arith, m.first))
 minus-has-matched (n ∷ levels) (x ∷ a) [] c d m = absurd (omega (arith, m.second))
@@ -184,12 +190,14 @@ has-zeros (n ∷ levels) =
     ∙ replicate-append-replicate (n - 1) (increments levels) (pos 0)
     ∙ ap (λ k. replicate k (pos 0)) (sym (increments-cons n levels))
 
-pub minus-has-zeros : (levels alternative : List ℕ) → length alternative ≡ length levels → minus (has levels alternative) (has levels (replicate (length levels) 0)) ≡ has levels alternative
+pub minus-has-zeros : (levels alternative : List ℕ) → length alternative ≡ length levels
+    → minus (has levels alternative) (has levels (replicate (length levels) 0)) ≡ has levels alternative
 minus-has-zeros levels alternative e =
     rw (has-zeros levels, ← length-has levels alternative e) (minus-zeros (has levels alternative))
 
 -- the difference to the lowest levels is the alternative's own row
-pub minus-has-lowest : (levels alternative lowest : List ℕ) (n : ℕ) → length alternative ≡ length levels → n ≡ length alternative → n ≤ 24 → lowest ≡ take n (replicate 24 0) → minus (has levels alternative) (has levels lowest) ≡ has levels alternative
+pub minus-has-lowest : (levels alternative lowest : List ℕ) (n : ℕ) → length alternative ≡ length levels → n ≡ length alternative → n ≤ 24
+    → lowest ≡ take n (replicate 24 0) → minus (has levels alternative) (has levels lowest) ≡ has levels alternative
 minus-has-lowest levels alternative lowest n e f l g =
     ap (λ a. minus (has levels alternative) (has levels a)) (g ∙ take-replicate n 24 0 l ∙ ap (λ k. replicate k 0) (f ∙ e))
     ∙ minus-has-zeros levels alternative e

@@ -71,7 +71,8 @@ IsStrictCite answers cite = IsStrict (cited_side answers cite) cite.weight
 
 module _ (levels : List ℕ) (answers : List Answer) (v : List ℤ) where
   -- one cite adds weight times what its answer gains
-  added : (own : List ℤ) (cite : Cite) → dot v (plus own (times cite.weight (cited_gain levels answers cite))) ≡ dot v own +ℤ (cite.weight *ℤ dot v (cited_gain levels answers cite))
+  added : (own : List ℤ) (cite : Cite)
+      → dot v (plus own (times cite.weight (cited_gain levels answers cite))) ≡ dot v own +ℤ (cite.weight *ℤ dot v (cited_gain levels answers cite))
   added own cite =
       dot-plus v own (times cite.weight (cited_gain levels answers cite)) ∙ ap (λ x. dot v own +ℤ x) (dot-times cite.weight v (cited_gain levels answers cite))
 
@@ -84,7 +85,8 @@ module _ (levels : List ℕ) (answers : List Answer) (v : List ℤ) where
       let rest = total_at_least more cites (All-tail (IsMet levels answers v) cite cites met) in
       omega (arith, ints, step, rest)
 
-  total_more : (own : List ℤ) (cites : List Cite) → All (IsMet levels answers v) cites → Any (IsStrictCite answers) cites → dot v own <ℤ dot v (total levels answers own cites)
+  total_more : (own : List ℤ) (cites : List Cite) → All (IsMet levels answers v) cites → Any (IsStrictCite answers) cites
+      → dot v own <ℤ dot v (total levels answers own cites)
   total_more own [] met (k, cite, within, at, strict) = absurd (omega (arith, within))
   total_more own (cite ∷ cites) met strict =
       let here = All-head (IsMet levels answers v) cite cites met in
@@ -101,7 +103,8 @@ module _ (levels : List ℕ) (answers : List Answer) (v : List ℤ) where
             omega (arith, ints, step, rest)
       ]
 
-  total_same : (own : List ℤ) (cites : List Cite) → All (IsMet levels answers v) cites → ¬ Any (IsStrictCite answers) cites → dot v (total levels answers own cites) ≡ dot v own
+  total_same : (own : List ℤ) (cites : List Cite) → All (IsMet levels answers v) cites → ¬ Any (IsStrictCite answers) cites
+      → dot v (total levels answers own cites) ≡ dot v own
   total_same own [] met loose = refl
   total_same own (cite ∷ cites) met loose =
       let here = All-head (IsMet levels answers v) cite cites met in
@@ -164,10 +167,12 @@ module _ (levels : List ℕ) (answers : List Answer) (c : Combination) (v : List
     favours = Favours-from_cite levels answers v (get_or c.answers k d) meets (proof.cited k d within);
   }
 
-  multiple : (pair : Pair) (side : Side) → Proves levels answers c pair side → c.scale *ℤ dot v (gain levels pair side) ≡ dot v (total levels answers c.increments c.answers)
+  multiple : (pair : Pair) (side : Side) → Proves levels answers c pair side
+      → c.scale *ℤ dot v (gain levels pair side) ≡ dot v (total levels answers c.increments c.answers)
   multiple pair side proof = dot_of_sums levels answers c pair side v vector.len proof.sums
 
-  total_positive : (pair : Pair) (side : Side) → Proves levels answers c pair side → HasStrict answers c → pos 1 ≤ℤ dot v (total levels answers c.increments c.answers)
+  total_positive : (pair : Pair) (side : Side) → Proves levels answers c pair side → HasStrict answers c
+      → pos 1 ≤ℤ dot v (total levels answers c.increments c.answers)
   total_positive pair side proof strict =
       let met = all_met pair side proof in
       elim strict [
@@ -176,7 +181,8 @@ module _ (levels : List ℕ) (answers : List Answer) (c : Combination) (v : List
         | inr cited ↦ omega (arith, ints, total_more levels answers v c.increments c.answers met cited, own_nonneg v c.increments vector.positive proof.own)
       ]
 
-  total_zero : (pair : Pair) (side : Side) → Proves levels answers c pair side → ¬ HasStrict answers c → dot v (total levels answers c.increments c.answers) ≡ pos 0
+  total_zero : (pair : Pair) (side : Side) → Proves levels answers c pair side → ¬ HasStrict answers c
+      → dot v (total levels answers c.increments c.answers) ≡ pos 0
   total_zero pair side proof loose =
       total_same levels answers v c.increments c.answers (all_met pair side proof) (λ cited. loose (inr cited)) ∙ own_zero v c.increments proof.own (λ own. loose (inl own))
 

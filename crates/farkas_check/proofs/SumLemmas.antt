@@ -38,7 +38,8 @@ entry-total levels answers own (cite ∷ cites) place =
     )
 
 -- a proof's sums, as one equation of products with the values of the increments
-pub dot_of_sums : (levels : List ℕ) (answers : List Answer) (c : Combination) (pair : Pair) (side : Side) (v : List ℤ) → length v ≡ increments levels → HasSums levels answers c pair side
+pub dot_of_sums : (levels : List ℕ) (answers : List Answer) (c : Combination) (pair : Pair) (side : Side) (v : List ℤ) → length v ≡ increments levels
+    → HasSums levels answers c pair side
     → c.scale *ℤ dot v (gain levels pair side) ≡ dot v (total levels answers c.increments c.answers)
 dot_of_sums levels answers c pair side v len has_sums =
     sym (dot-times c.scale v (gain levels pair side))
@@ -51,10 +52,12 @@ pub record AreTotals (levels : List ℕ) (answers : List Answer) (own : List ℤ
   pub sum : sums ≡ total levels answers own (take i cites)
   pub small : All (λ x. unsigned_abs x ≤ 2 ^ 96 * (i + 1)) sums
 
-pub cited_gain-there : (levels : List ℕ) (answers : List Answer) (cite : Cite) (answer : Answer) → slice_get answers (cite.answer - 1) ≡ Some answer → cited_gain levels answers cite ≡ gain levels answer.pair answer.side
+pub cited_gain-there : (levels : List ℕ) (answers : List Answer) (cite : Cite) (answer : Answer) → slice_get answers (cite.answer - 1) ≡ Some answer
+    → cited_gain levels answers cite ≡ gain levels answer.pair answer.side
 cited_gain-there levels answers cite answer found = ap (λ o. option_map_or (λ (a : Answer). gain levels a.pair a.side) o []) found
 
-pub AreTotals-none : (levels : List ℕ) (answers : List Answer) (own : List ℤ) (cites : List Cite) → All (λ x. unsigned_abs x < 2 ^ 96) own → AreTotals levels answers own cites 0 own
+pub AreTotals-none : (levels : List ℕ) (answers : List Answer) (own : List ℤ) (cites : List Cite) → All (λ x. unsigned_abs x < 2 ^ 96) own
+    → AreTotals levels answers own cites 0 own
 AreTotals-none levels answers own cites small = record {
   sum = refl;
   small = λ k d within. omega (arith, small k d within);

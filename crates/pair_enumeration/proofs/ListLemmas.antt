@@ -19,7 +19,8 @@ use Rattle.pair_enumeration.proofs.TailCounts.{length-listed}
 pub model_levels_fit : (criteria : Criteria) → IsModel criteria → IsTuple criteria.levels
 model_levels_fit criteria m = few_increments_fit criteria.levels m.some m.two_levels m.few_increments
 
-member_is_class : (criteria : Criteria) (pair : Pair) → 1 ≤ criteria.degree → Among pair (listed_classes criteria.levels criteria.degree) → IsClass criteria pair
+member_is_class : (criteria : Criteria) (pair : Pair) → 1 ≤ criteria.degree → Among pair (listed_classes criteria.levels criteria.degree)
+    → IsClass criteria pair
 member_is_class criteria pair low h =
     let a = among-flat_map (λ d. map (joined [] []) (tails criteria.levels d Same)) pair (range_with_len 2 (criteria.degree - 1)) h in
     let r = among-range a.0 2 (criteria.degree - 1) a.1 in
@@ -50,7 +51,8 @@ listed_is_list criteria m = record {
 }
 
 -- the same of a list that is equal
-pub listed_by : (criteria : Criteria) (levels : List ℕ) (limit : ℕ) (classes : List Pair) → IsModel criteria → levels ≡ criteria.levels → limit ≡ criteria.degree
+pub listed_by : (criteria : Criteria) (levels : List ℕ) (limit : ℕ) (classes : List Pair) → IsModel criteria → levels ≡ criteria.levels
+    → limit ≡ criteria.degree
     → classes ≡ listed_classes levels limit → IsListed (record { criteria = criteria; classes = classes })
 listed_by criteria levels limit classes m e f g =
     subst (λ (xs : List Pair). let l : Listed = record { criteria = criteria; classes = xs } in IsListed l)

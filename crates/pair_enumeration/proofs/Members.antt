@@ -73,7 +73,8 @@ abbrev pub Sorted : {X : Type 0} → (X → X → Type 0) → List X → Type 0
 Sorted R [] = Unit {0}
 Sorted {X} R (x ∷ xs) = ((y : X) → Among y xs → R x y) × Sorted R xs
 
-pub sorted-append : {X : Type 0} (R : X → X → Type 0) (xs ys : List X) → Sorted R xs → Sorted R ys → ((x y : X) → Among x xs → Among y ys → R x y) → Sorted R (xs ++ ys)
+pub sorted-append : {X : Type 0} (R : X → X → Type 0) (xs ys : List X) → Sorted R xs → Sorted R ys → ((x y : X) → Among x xs → Among y ys → R x y)
+    → Sorted R (xs ++ ys)
 sorted-append R [] ys h k r = k
 sorted-append R (x ∷ xs) ys h k r = (
   λ y m. elim (among-append y xs ys m) [ inl a ↦ h.0 y a | inr b ↦ r x y (inl refl) b ],

@@ -21,7 +21,8 @@ length-cancelled [] b e = refl
 length-cancelled (x ∷ a) [] e = absurd (omega arith)
 length-cancelled (x ∷ a) (y ∷ b) e = omega (arith, length-cancelled a b (omega arith))
 
-pub get_or-cancelled : (a b : List ℕ) (k : ℕ) → length a ≡ length b → k < length a → get_or (cancelled a b) k 0 ≡ cond (eqb (get_or a k 0) (get_or b k 0)) 0 (get_or a k 0)
+pub get_or-cancelled : (a b : List ℕ) (k : ℕ) → length a ≡ length b → k < length a
+    → get_or (cancelled a b) k 0 ≡ cond (eqb (get_or a k 0) (get_or b k 0)) 0 (get_or a k 0)
 get_or-cancelled [] b k e l = absurd (omega arith)
 get_or-cancelled (x ∷ a) [] k e l = absurd (omega arith)
 get_or-cancelled (x ∷ a) (y ∷ b) zero e l = refl
@@ -63,7 +64,8 @@ same_len levels a b h = h.first.len ∙ sym h.second.len
 pub exchanged : (levels a b : List ℕ) → AreAlternatives levels a b → AreAlternatives levels b a
 exchanged levels a b h = record { first = h.second; second = h.first }
 
-fits_at : (levels a b : List ℕ) (k : ℕ) → AreAlternatives levels a b → k < length levels → FitsAt (get_or levels k 0) (get_or (cancelled a b) k 0) (get_or (cancelled b a) k 0)
+fits_at : (levels a b : List ℕ) (k : ℕ) → AreAlternatives levels a b → k < length levels
+    → FitsAt (get_or levels k 0) (get_or (cancelled a b) k 0) (get_or (cancelled b a) k 0)
 fits_at levels a b k h l =
     let e = same_len levels a b h in
     let la : k < length a = omega (arith, h.first.len) in
@@ -169,7 +171,8 @@ first_not_both a b (k, l, h) (j, m, g) = elim (cases_order k j) [
 ]
 
 -- ---- the class of two alternatives
-written_class : (criteria : Criteria) (a b : List ℕ) → AreAlternatives criteria.levels a b → NeedsQuestion criteria a b → IsLeftFirst a b → IsClass criteria (written_pair a b)
+written_class : (criteria : Criteria) (a b : List ℕ) → AreAlternatives criteria.levels a b → NeedsQuestion criteria a b → IsLeftFirst a b
+    → IsClass criteria (written_pair a b)
 written_class criteria a b h q first =
     let e = same_len criteria.levels a b h in
     let fits = written_fits criteria.levels a b h in
@@ -184,14 +187,16 @@ written_class criteria a b h q first =
       within = omega (arith, degree-cancelled a b e, q.within);
     }
 
-pub question_turned : (criteria : Criteria) (a b : List ℕ) → AreAlternatives criteria.levels a b → NeedsQuestion criteria a b → NeedsQuestion criteria b a
+pub question_turned : (criteria : Criteria) (a b : List ℕ) → AreAlternatives criteria.levels a b → NeedsQuestion criteria a b
+    → NeedsQuestion criteria b a
 question_turned criteria a b h q = record { undominated = (q.undominated.1, q.undominated.0); within = omega (arith, q.within, degree-turned a b (same_len criteria.levels a b h)) }
 
 higher_not_same : (a b : List ℕ) → IsSomewhereHigher a b → a ≢ b
 higher_not_same a b (k, l, h) e = omega (arith, h, ap (λ xs. get_or xs k 0) e)
 
 -- one of the two ways to write them is a class
-pub class_of_two : (criteria : Criteria) (a b : List ℕ) → AreAlternatives criteria.levels a b → NeedsQuestion criteria a b → IsClass criteria (written_pair a b) ⊎ IsClass criteria (written_pair b a)
+pub class_of_two : (criteria : Criteria) (a b : List ℕ) → AreAlternatives criteria.levels a b → NeedsQuestion criteria a b
+    → IsClass criteria (written_pair a b) ⊎ IsClass criteria (written_pair b a)
 class_of_two criteria a b h q = elim (first_of_two a b (same_len criteria.levels a b h)) [
   | inl same ↦ absurd (higher_not_same a b q.undominated.0 same)
   | inr f ↦ elim f [
@@ -205,7 +210,8 @@ pub not_both_classes : (criteria : Criteria) (a b : List ℕ) → IsClass criter
 not_both_classes criteria a b c d = first_not_both (cancelled a b) (cancelled b a) c.left_first d.left_first
 
 -- where it is one, they need a question
-pub class_needs_question : (criteria : Criteria) (a b : List ℕ) → AreAlternatives criteria.levels a b → IsClass criteria (written_pair a b) → NeedsQuestion criteria a b
+pub class_needs_question : (criteria : Criteria) (a b : List ℕ) → AreAlternatives criteria.levels a b → IsClass criteria (written_pair a b)
+    → NeedsQuestion criteria a b
 class_needs_question criteria a b h c =
     let e = same_len criteria.levels a b h in
     let f : length (cancelled a b) ≡ length (cancelled b a) = c.fits.left_len ∙ sym c.fits.right_len in

@@ -35,14 +35,16 @@ pub record IsNotOutside (pairs : List Pair) (pair : Pair) (low high : ℕ) : Typ
 at_most : (k m : ℕ) → k < m + 1 → (k ≡ m) ⊎ (k < m)
 at_most k m l = eq-or-lt_of_le (omega arith)
 
-not_before_middle : (pairs : List Pair) (pair middle_pair : Pair) (high middle k : ℕ) → AllPairs ComesBefore pairs → high ≤ length pairs → middle < high
+not_before_middle : (pairs : List Pair) (pair middle_pair : Pair) (high middle k : ℕ) → AllPairs ComesBefore pairs → high ≤ length pairs
+    → middle < high
     → get_or pairs middle pair ≡ middle_pair → ComesBefore middle_pair pair → k < middle + 1 → get_or pairs k pair ≢ pair
 not_before_middle pairs pair middle_pair high middle k ordered len m e before l is = elim (at_most k middle l) [
   | inl same ↦ not_before_itself pair (subst (λ p. ComesBefore p pair) (sym e ∙ ap (λ n. get_or pairs n pair) (sym same) ∙ is) before)
   | inr less ↦ before_not_after middle_pair pair before (subst₂ ComesBefore is e (ordered k middle pair less (omega arith)))
 ]
 
-pub not_below_middle : (pairs : List Pair) (pair middle_pair : Pair) (low high middle : ℕ) → AllPairs ComesBefore pairs → IsNotOutside pairs pair low high
+pub not_below_middle : (pairs : List Pair) (pair middle_pair : Pair) (low high middle : ℕ) → AllPairs ComesBefore pairs
+    → IsNotOutside pairs pair low high
     → low ≤ middle → middle < high → get_or pairs middle pair ≡ middle_pair → ComesBefore middle_pair pair → IsNotOutside pairs pair (middle + 1) high
 not_below_middle pairs pair middle_pair low high middle ordered h l m e before = record {
   low_high = omega arith;
@@ -51,7 +53,8 @@ not_below_middle pairs pair middle_pair low high middle ordered h l m e before =
   above = h.above;
 }
 
-pub not_above_middle : (pairs : List Pair) (pair middle_pair : Pair) (low high middle : ℕ) → AllPairs ComesBefore pairs → IsNotOutside pairs pair low high
+pub not_above_middle : (pairs : List Pair) (pair middle_pair : Pair) (low high middle : ℕ) → AllPairs ComesBefore pairs
+    → IsNotOutside pairs pair low high
     → low ≤ middle → middle < high → get_or pairs middle pair ≡ middle_pair → ¬ ComesBefore middle_pair pair → IsNotOutside pairs pair low middle
 not_above_middle pairs pair middle_pair low high middle ordered h l m e after = record {
   low_high = l;
@@ -116,7 +119,8 @@ found_at pairs pair low l e =
     let k : low + 1 - 1 ≡ low = omega arith in
     item_of pairs (low + 1) pair (omega arith) (ap (slice_get pairs) k ∙ slice_get-get_or pairs low pair l ∙ ap Some e)
 
-pub nowhere : (pairs : List Pair) (pair : Pair) (low high : ℕ) → IsNotOutside pairs pair low high → high ≤ low → (low < length pairs → get_or pairs low pair ≢ pair) → ¬ Contains pairs pair
+pub nowhere : (pairs : List Pair) (pair : Pair) (low high : ℕ) → IsNotOutside pairs pair low high → high ≤ low
+    → (low < length pairs → get_or pairs low pair ≢ pair) → ¬ Contains pairs pair
 nowhere pairs pair low high h l n (k, m, e) = elim (cases_order k low) [
   | inl same ↦ n (omega (arith, m, same)) (ap (λ j. get_or pairs j pair) (sym same) ∙ e)
   | inr apart ↦ elim apart [
@@ -126,7 +130,8 @@ nowhere pairs pair low high h l n (k, m, e) = elim (cases_order k low) [
 ]
 
 -- a pair stands at one place only
-same_place : (pairs : List Pair) (i j : ℕ) (pair : Pair) → AllPairs ComesBefore pairs → i < length pairs → j < length pairs → get_or pairs i pair ≡ pair → get_or pairs j pair ≡ pair → i ≡ j
+same_place : (pairs : List Pair) (i j : ℕ) (pair : Pair) → AllPairs ComesBefore pairs → i < length pairs → j < length pairs
+    → get_or pairs i pair ≡ pair → get_or pairs j pair ≡ pair → i ≡ j
 same_place pairs i j pair ordered a b e f = elim (cases_order i j) [
   | inl same ↦ same
   | inr apart ↦ elim apart [
@@ -136,12 +141,14 @@ same_place pairs i j pair ordered a b e f = elim (cases_order i j) [
 ]
 
 -- the place before is within the list, and the pair stands there
-at_place : (pairs : List Pair) (i : ℕ) (pair : Pair) → class_at pairs i ≡ Some pair → (1 ≤ i) × (i - 1 < length pairs) × (get_or pairs (i - 1) pair ≡ pair)
+at_place : (pairs : List Pair) (i : ℕ) (pair : Pair) → class_at pairs i ≡ Some pair
+    → (1 ≤ i) × (i - 1 < length pairs) × (get_or pairs (i - 1) pair ≡ pair)
 at_place pairs i pair at =
     let found = item_found pairs i pair at in
     (item_positive pairs i pair at, slice_get_within pairs (i - 1) pair found, get_or_from_slice_get pairs (i - 1) pair pair found)
 
-pub stands_once : (pairs : List Pair) (i j : ℕ) (pair : Pair) → AllPairs ComesBefore pairs → class_at pairs i ≡ Some pair → class_at pairs j ≡ Some pair → i ≡ j
+pub stands_once : (pairs : List Pair) (i j : ℕ) (pair : Pair) → AllPairs ComesBefore pairs → class_at pairs i ≡ Some pair
+    → class_at pairs j ≡ Some pair → i ≡ j
 stands_once pairs i j pair ordered at other_at =
     let a = at_place pairs i pair at in
     let b = at_place pairs j pair other_at in

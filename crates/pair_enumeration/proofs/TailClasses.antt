@@ -33,7 +33,8 @@ levels_tail n x y levels left right w = record {
   cancelled = λ k l e. w.cancelled (suc k) (omega arith) e;
 }
 
-levels_cons : (n x y : ℕ) (levels left right : List ℕ) → FitsAt n x y → (x ≡ y → x ≡ 0) → AreLevels levels left right → AreLevels (n ∷ levels) (x ∷ left) (y ∷ right)
+levels_cons : (n x y : ℕ) (levels left right : List ℕ) → FitsAt n x y → (x ≡ y → x ≡ 0) → AreLevels levels left right
+    → AreLevels (n ∷ levels) (x ∷ left) (y ∷ right)
 levels_cons n x y levels left right f z w = record {
   left_len = omega (arith, w.left_len);
   right_len = omega (arith, w.right_len);
@@ -41,7 +42,8 @@ levels_cons n x y levels left right f z w = record {
   cancelled = cancelled_cons x y left right z w.cancelled;
 }
   where
-    places_cons : (n x y : ℕ) (levels left right : List ℕ) → FitsAt n x y → ((k : ℕ) → k < length levels → FitsAt (get_or levels k 0) (get_or left k 0) (get_or right k 0))
+    places_cons : (n x y : ℕ) (levels left right : List ℕ) → FitsAt n x y
+        → ((k : ℕ) → k < length levels → FitsAt (get_or levels k 0) (get_or left k 0) (get_or right k 0))
         → (k : ℕ) → k < length (n ∷ levels) → FitsAt (get_or (n ∷ levels) k 0) (get_or (x ∷ left) k 0) (get_or (y ∷ right) k 0)
     places_cons n x y levels left right f h zero l = f
     places_cons n x y levels left right f h (suc k) l = h k (omega arith)
@@ -71,21 +73,24 @@ higher_at x y a b (suc k) e l h = (k, omega arith, h)
 pub higher_tail : (x y : ℕ) (a b : List ℕ) → x ≤ y → IsSomewhereHigher (x ∷ a) (y ∷ b) → IsSomewhereHigher a b
 higher_tail x y a b e (k, l, h) = higher_at x y a b k e l h
 
-same_later : (x y : ℕ) (a b : List ℕ) (k : ℕ) → x ≡ y → ((j : ℕ) → j < k → get_or a j 0 ≡ get_or b j 0) → (j : ℕ) → j < suc k → get_or (x ∷ a) j 0 ≡ get_or (y ∷ b) j 0
+same_later : (x y : ℕ) (a b : List ℕ) (k : ℕ) → x ≡ y → ((j : ℕ) → j < k → get_or a j 0 ≡ get_or b j 0) → (j : ℕ) → j < suc k
+    → get_or (x ∷ a) j 0 ≡ get_or (y ∷ b) j 0
 same_later x y a b k e h zero l = e
 same_later x y a b k e h (suc j) l = h j (omega arith)
 
 pub first_later : (x y : ℕ) (a b : List ℕ) → x ≡ y → IsLeftFirst a b → IsLeftFirst (x ∷ a) (y ∷ b)
 first_later x y a b e (k, l, h) = (suc k, omega arith, (same_later x y a b k e h.0, h.1))
 
-first_at : (x y : ℕ) (a b : List ℕ) (k : ℕ) → x ≡ y → k < length (x ∷ a) → ((j : ℕ) → j < k → get_or (x ∷ a) j 0 ≡ get_or (y ∷ b) j 0) → get_or (y ∷ b) k 0 < get_or (x ∷ a) k 0 → IsLeftFirst a b
+first_at : (x y : ℕ) (a b : List ℕ) (k : ℕ) → x ≡ y → k < length (x ∷ a) → ((j : ℕ) → j < k → get_or (x ∷ a) j 0 ≡ get_or (y ∷ b) j 0)
+    → get_or (y ∷ b) k 0 < get_or (x ∷ a) k 0 → IsLeftFirst a b
 first_at x y a b zero e l same h = absurd (omega arith)
 first_at x y a b (suc k) e l same h = (k, omega arith, (λ j m. same (suc j) (omega arith), h))
 
 first_tail : (x y : ℕ) (a b : List ℕ) → x ≡ y → IsLeftFirst (x ∷ a) (y ∷ b) → IsLeftFirst a b
 first_tail x y a b e (k, l, h) = first_at x y a b k e l h.0 h.1
 
-head_at : (x y : ℕ) (a b : List ℕ) (k : ℕ) → x ≢ y → ((j : ℕ) → j < k → get_or (x ∷ a) j 0 ≡ get_or (y ∷ b) j 0) → get_or (y ∷ b) k 0 < get_or (x ∷ a) k 0 → y < x
+head_at : (x y : ℕ) (a b : List ℕ) (k : ℕ) → x ≢ y → ((j : ℕ) → j < k → get_or (x ∷ a) j 0 ≡ get_or (y ∷ b) j 0)
+    → get_or (y ∷ b) k 0 < get_or (x ∷ a) k 0 → y < x
 head_at x y a b zero n same h = h
 head_at x y a b (suc k) n same h = absurd (n (same 0 (omega arith)))
 
@@ -121,7 +126,8 @@ lt_or_le x zero = inr (omega arith)
 lt_or_le zero (suc y) = inl (omega arith)
 lt_or_le (suc x) (suc y) = elim (lt_or_le x y) [ inl h ↦ inl (omega (arith, h)) | inr h ↦ inr (omega (arith, h)) ]
 
-completes_next : (stage : Stage) (x y : ℕ) (a b : List ℕ) → x ≢ y → Completes stage (x ∷ a) (y ∷ b) → (next : Stage) × (stage_after stage x y ≡ Some next) × Completes next a b
+completes_next : (stage : Stage) (x y : ℕ) (a b : List ℕ) → x ≢ y → Completes stage (x ∷ a) (y ∷ b)
+    → (next : Stage) × (stage_after stage x y ≡ Some next) × Completes next a b
 completes_next Same x y a b n h =
     let l = first_head x y a b n h.0 in
     (Left, after_same x y l, higher_tail y x b a (omega arith) h.1)
@@ -136,7 +142,8 @@ back_same : (x y : ℕ) (next : Stage) (t : Bool) → ltb y x ≡ t → cond t (
 back_same x y next true e h = (ltb-true y x e, cc)
 back_same x y next false e h = absurd cc
 
-back_left : (x y : ℕ) (next : Stage) (t u : Bool) → ltb y x ≡ t → ltb x y ≡ u → cond t (Some Left) (cond u (Some Both) None) ≡ Some next → ((y < x) × (next ≡ Left)) ⊎ ((x < y) × (next ≡ Both))
+back_left : (x y : ℕ) (next : Stage) (t u : Bool) → ltb y x ≡ t → ltb x y ≡ u → cond t (Some Left) (cond u (Some Both) None) ≡ Some next
+    → ((y < x) × (next ≡ Left)) ⊎ ((x < y) × (next ≡ Both))
 back_left x y next true u e f h = inl (ltb-true y x e, cc)
 back_left x y next false true e f h = inr (ltb-true x y f, cc)
 back_left x y next false false e f h = absurd cc
@@ -153,7 +160,8 @@ after_differs Same next x y h e = let r = back_same x y next (ltb y x) refl h in
 after_differs Left next x y h e = elim (back_left x y next (ltb y x) (ltb x y) refl refl h) [ inl r ↦ omega (arith, r.0) | inr r ↦ omega (arith, r.0) ]
 after_differs Both next x y h e = not_eqb x y (back_both x y next (eqb x y) refl h).0 e
 
-completes_back : (stage next : Stage) (x y : ℕ) (a b : List ℕ) → stage_after stage x y ≡ Some next → Completes next a b → Completes stage (x ∷ a) (y ∷ b)
+completes_back : (stage next : Stage) (x y : ℕ) (a b : List ℕ) → stage_after stage x y ≡ Some next → Completes next a b
+    → Completes stage (x ∷ a) (y ∷ b)
 completes_back Same next x y a b h k =
     let r = back_same x y next (ltb y x) refl h in
     let later : IsSomewhereHigher b a = subst (λ s. Completes s a b) r.1 k in
@@ -172,11 +180,13 @@ eq_or_ne x y false e = inr (not_eqb x y e)
 nothing_higher : (a : List ℕ) → ¬ IsSomewhereHigher [] a
 nothing_higher a (k, l, h) = omega (arith, l)
 
-differs_at : (n d : ℕ) (stage next : Stage) (x y : ℕ) → 1 ≤ d → x ≢ y → FitsAt n x y → stage_after stage x y ≡ Some next → Differs n d stage next (x, y)
+differs_at : (n d : ℕ) (stage next : Stage) (x y : ℕ) → 1 ≤ d → x ≢ y → FitsAt n x y → stage_after stage x y ≡ Some next
+    → Differs n d stage next (x, y)
 differs_at n d stage next x y l m (inl none) h = absurd (m (none.0 ∙ sym none.1))
 differs_at n d stage next x y l m (inr both) h = record { rest = l; left_low = both.0; left_high = both.1; right_low = both.2; right_high = both.3; after = h }
 
-pub to_tail : (levels left right : List ℕ) (stage : Stage) → AreLevels levels left right → Completes stage left right → IsTail levels (degree left right) stage (zip left right)
+pub to_tail : (levels left right : List ℕ) (stage : Stage) → AreLevels levels left right → Completes stage left right
+    → IsTail levels (degree left right) stage (zip left right)
 to_tail [] [] [] Same w h = absurd (nothing_higher [] h.1)
 to_tail [] [] [] Left w h = absurd (nothing_higher [] h)
 to_tail [] [] [] Both w h = (refl, refl)
@@ -265,7 +275,8 @@ pub degree_from_two : (levels : List ℕ) (d : ℕ) (t : Tail) → IsTail levels
 degree_from_two levels d t h = needs_rest levels d Same t h
 
 -- ---- both ways
-pub class_tail : (criteria : Criteria) (pair : Pair) → IsClass criteria pair → IsTail criteria.levels (degree pair.left pair.right) Same (zip pair.left pair.right)
+pub class_tail : (criteria : Criteria) (pair : Pair) → IsClass criteria pair
+    → IsTail criteria.levels (degree pair.left pair.right) Same (zip pair.left pair.right)
 class_tail criteria pair c =
     to_tail criteria.levels pair.left pair.right Same
     (record { left_len = c.fits.left_len; right_len = c.fits.right_len; places = c.fits.places; cancelled = c.cancelled })

@@ -111,7 +111,8 @@ sum-range-same f g a (suc n) h =
     )
 
 -- ---- how many tails begin with a difference
-option-length : (rest : Stage → List Tail) (o : Option Stage) (l r : ℕ) → length (option_map_or (λ next. with_levels l r (rest next)) o []) ≡ option_map_or (λ next. length (rest next)) o 0
+option-length : (rest : Stage → List Tail) (o : Option Stage) (l r : ℕ)
+    → length (option_map_or (λ next. with_levels l r (rest next)) o []) ≡ option_map_or (λ next. length (rest next)) o 0
 option-length rest None l r = refl
 option-length rest (Some next) l r = length-map (rest next) (λ t. (l, r) ∷ t)
 
@@ -131,7 +132,8 @@ same-apart x true u count = refl
 same-apart x false true count = refl
 same-apart x false false count = refl
 
-left-apart : (t u : Bool) (count : Stage → ℕ) → option_map_or count (cond t (Some Left) (cond u (Some Both) None)) 0 ≡ cond t (count Left) (cond u (count Both) 0)
+left-apart : (t u : Bool) (count : Stage → ℕ)
+    → option_map_or count (cond t (Some Left) (cond u (Some Both) None)) 0 ≡ cond t (count Left) (cond u (count Both) 0)
 left-apart true u count = refl
 left-apart false true count = refl
 left-apart false false count = refl
@@ -145,7 +147,8 @@ both-apart l r count = elim (compared l r) [
   | inr c ↦ ap (λ t. option_map_or count (cond t None (Some Both)) 0) (ne_eqb l r (λ e. omega (arith, c, e))) ∙ sym (apart-below (count Both) (count Both) l r c)
 ]
 
-stage-apart : (stage : Stage) (l r : ℕ) (count : Stage → ℕ) → option_map_or count (stage_after stage l r) 0 ≡ apart (below_count count stage) (above_count count stage) l r
+stage-apart : (stage : Stage) (l r : ℕ) (count : Stage → ℕ)
+    → option_map_or count (stage_after stage l r) 0 ≡ apart (below_count count stage) (above_count count stage) l r
 stage-apart Same l r count = same-apart 0 (ltb r l) (ltb l r) count
 stage-apart Left l r count = left-apart (ltb r l) (ltb l r) count
 stage-apart Both l r count = both-apart l r count

@@ -65,11 +65,13 @@ tails_are (n ∷ levels) (suc d) stage t h =
     ]
 
 -- ---- each tail is listed
-option_lists : (rest : Stage → List Tail) (o : Option Stage) (next : Stage) (l r : ℕ) (u : Tail) → o ≡ Some next → Among u (rest next) → Among ((l, r) ∷ u) (option_map_or (λ next. with_levels l r (rest next)) o [])
+option_lists : (rest : Stage → List Tail) (o : Option Stage) (next : Stage) (l r : ℕ) (u : Tail) → o ≡ Some next → Among u (rest next)
+    → Among ((l, r) ∷ u) (option_map_or (λ next. with_levels l r (rest next)) o [])
 option_lists rest o next l r u e h =
     subst (λ v. Among ((l, r) ∷ u) (option_map_or (λ next. with_levels l r (rest next)) v [])) (sym e) (among-map_in (λ tail. (l, r) ∷ tail) u (rest next) h)
 
-differing_lists : (rest : Stage → List Tail) (stage next : Stage) (n d : ℕ) (p : ℕ × ℕ) (u : Tail) → Differs n d stage next p → Among u (rest next) → Among (p ∷ u) (differing_tails rest stage n)
+differing_lists : (rest : Stage → List Tail) (stage next : Stage) (n d : ℕ) (p : ℕ × ℕ) (u : Tail) → Differs n d stage next p → Among u (rest next)
+    → Among (p ∷ u) (differing_tails rest stage n)
 differing_lists rest stage next n d p u h m =
     among-flat_map_in (row_tails rest stage n) p.0 (p ∷ u) (range_with_len 1 n) (among-range_in p.0 1 n h.left_low (omega (arith, h.left_high)))
     (among-flat_map_in (option_tails rest stage p.0) p.1 (p ∷ u) (range_with_len 1 n) (among-range_in p.1 1 n h.right_low (omega (arith, h.right_high)))

@@ -38,7 +38,8 @@ pub level_is : (x : ℕ) → 1 ≤ x → order_level x ≡ x
 level_is x h = ap (λ b. cond b 25 x) (ne_eqb x 0 (λ e. omega arith))
 
 -- two differences on one criterion
-differing_precede : (l r l' r' : ℕ) (t u : Tail) → 1 ≤ l → 1 ≤ r → 1 ≤ l' → 1 ≤ r' → ((l < l') ⊎ ((l ≡ l') × (r < r'))) → Precedes ((l, r) ∷ t) ((l', r') ∷ u)
+differing_precede : (l r l' r' : ℕ) (t u : Tail) → 1 ≤ l → 1 ≤ r → 1 ≤ l' → 1 ≤ r' → ((l < l') ⊎ ((l ≡ l') × (r < r')))
+    → Precedes ((l, r) ∷ t) ((l', r') ∷ u)
 differing_precede l r l' r' t u a b c d (inl h) =
     precedes_left (order_level l) (order_level r) (order_level l') (order_level r') (codes t) (codes u) (omega (arith, level_is l a, level_is l' c))
 differing_precede l r l' r' t u a b c d (inr h) =
@@ -58,22 +59,26 @@ with_levels_sorted : (l r : ℕ) (ts : List Tail) → Sorted Precedes ts → Sor
 with_levels_sorted l r ts h =
     sorted-map Precedes Precedes (λ t. (l, r) ∷ t) ts (λ t u m n k. precedes_rest (order_level l) (order_level r) (codes t) (codes u) k) h
 
-option_sorted : (rest : Stage → List Tail) (o : Option Stage) (l r : ℕ) → ((next : Stage) → Sorted Precedes (rest next)) → Sorted Precedes (option_map_or (λ next. with_levels l r (rest next)) o [])
+option_sorted : (rest : Stage → List Tail) (o : Option Stage) (l r : ℕ) → ((next : Stage) → Sorted Precedes (rest next))
+    → Sorted Precedes (option_map_or (λ next. with_levels l r (rest next)) o [])
 option_sorted rest None l r h = tt
 option_sorted rest (Some next) l r h = with_levels_sorted l r (rest next) (h next)
 
 -- the first levels of what an option gives
-option_head : (rest : Stage → List Tail) (o : Option Stage) (l r : ℕ) (t : Tail) → Among t (option_map_or (λ next. with_levels l r (rest next)) o []) → (u : Tail) × ((l, r) ∷ u ≡ t)
+option_head : (rest : Stage → List Tail) (o : Option Stage) (l r : ℕ) (t : Tail) → Among t (option_map_or (λ next. with_levels l r (rest next)) o [])
+    → (u : Tail) × ((l, r) ∷ u ≡ t)
 option_head rest None l r t h = absurd h
 option_head rest (Some next) l r t h = let a = among-map (λ u. (l, r) ∷ u) t (rest next) h in (a.0, a.2)
 
-row_head : (rest : Stage → List Tail) (stage : Stage) (n l : ℕ) (t : Tail) → Among t (row_tails rest stage n l) → (r : ℕ) × (1 ≤ r) × ((u : Tail) × ((l, r) ∷ u ≡ t))
+row_head : (rest : Stage → List Tail) (stage : Stage) (n l : ℕ) (t : Tail) → Among t (row_tails rest stage n l)
+    → (r : ℕ) × (1 ≤ r) × ((u : Tail) × ((l, r) ∷ u ≡ t))
 row_head rest stage n l t h =
     let a = among-flat_map (option_tails rest stage l) t (range_with_len 1 n) h in
     let b = among-range a.0 1 n a.1 in
     (a.0, b.0, option_head rest (stage_after stage l a.0) l a.0 t a.2)
 
-row_sorted : (rest : Stage → List Tail) (stage : Stage) (n l : ℕ) → 1 ≤ l → ((next : Stage) → Sorted Precedes (rest next)) → Sorted Precedes (row_tails rest stage n l)
+row_sorted : (rest : Stage → List Tail) (stage : Stage) (n l : ℕ) → 1 ≤ l → ((next : Stage) → Sorted Precedes (rest next))
+    → Sorted Precedes (row_tails rest stage n l)
 row_sorted rest stage n l low h =
     sorted-flat_map-range Precedes (option_tails rest stage l) 1 n
     (λ r a b. option_sorted rest (stage_after stage l r) l r h)
@@ -82,7 +87,8 @@ row_sorted rest stage n l low h =
     let y = option_head rest (stage_after stage l s) l s u k in
     subst₂ Precedes x.1 y.1 (differing_precede l r l s x.0 y.0 low a low (omega arith) (inr (refl, b))))
 
-differing_sorted : (rest : Stage → List Tail) (stage : Stage) (n : ℕ) → ((next : Stage) → Sorted Precedes (rest next)) → Sorted Precedes (differing_tails rest stage n)
+differing_sorted : (rest : Stage → List Tail) (stage : Stage) (n : ℕ) → ((next : Stage) → Sorted Precedes (rest next))
+    → Sorted Precedes (differing_tails rest stage n)
 differing_sorted rest stage n h =
     sorted-flat_map-range Precedes (row_tails rest stage n) 1 n
     (λ l a b. row_sorted rest stage n l a h)
@@ -114,13 +120,15 @@ key_is levels d t h =
     let r = from_tail levels d Same t (tails_are levels d Same t h) in
     ap₂ (λ (k : ℕ) (u : Tail). k ∷ codes u) (sym r.degree_of) (zip-lefts t)
 
-pub precedes_comes_before : (levels : List ℕ) (d : ℕ) (t u : Tail) → Among t (tails levels d Same) → Among u (tails levels d Same) → Precedes t u → ComesBefore (joined [] [] t) (joined [] [] u)
+pub precedes_comes_before : (levels : List ℕ) (d : ℕ) (t u : Tail) → Among t (tails levels d Same) → Among u (tails levels d Same) → Precedes t u
+    → ComesBefore (joined [] [] t) (joined [] [] u)
 precedes_comes_before levels d t u m k h =
     ap₂ (λ a b. slice_cmp nat_cmp a b) (key_is levels d t m) (key_is levels d u k)
     ∙ ap (λ r. ordering_then r (slice_cmp nat_cmp (codes t) (codes u))) (cmp_same d)
     ∙ h
 
-degree_comes_before : (levels : List ℕ) (d e : ℕ) (t u : Tail) → Among t (tails levels d Same) → Among u (tails levels e Same) → d < e → ComesBefore (joined [] [] t) (joined [] [] u)
+degree_comes_before : (levels : List ℕ) (d e : ℕ) (t u : Tail) → Among t (tails levels d Same) → Among u (tails levels e Same) → d < e
+    → ComesBefore (joined [] [] t) (joined [] [] u)
 degree_comes_before levels d e t u m k h =
     ap₂ (λ a b. slice_cmp nat_cmp a b) (key_is levels d t m) (key_is levels e u k)
     ∙ ap (λ r. ordering_then r (slice_cmp nat_cmp (codes t) (codes u))) (cmp_less d e h)

@@ -31,7 +31,8 @@ flat_map-range-more f a n =
     ∙ ap (λ r. flat_map f (range_with_len a n) ++ r) (append-nil (f (a + n)))
 
 -- one number more in a range from 1
-flat_map-up_to : {A : Type 0} (f : ℕ → List A) (i : ℕ) → 1 ≤ i → flat_map f (range_with_len 1 (i + 1 - 1)) ≡ flat_map f (range_with_len 1 (i - 1)) ++ f i
+flat_map-up_to : {A : Type 0} (f : ℕ → List A) (i : ℕ) → 1 ≤ i
+    → flat_map f (range_with_len 1 (i + 1 - 1)) ≡ flat_map f (range_with_len 1 (i - 1)) ++ f i
 flat_map-up_to f i l =
     let e : i + 1 - 1 ≡ i - 1 + 1 = omega arith in
     let g : 1 + (i - 1) ≡ i = omega arith in
@@ -41,7 +42,8 @@ pairs_from-append : (walk : Walk) (a b : List Tail) → pairs_from walk (a ++ b)
 pairs_from-append walk a b = map-append (joined (take walk.place walk.left) (take walk.place walk.right)) a b
 
 -- items that grew twice
-grown : (walk : Walk) (before now new : List Pair) (a b c : List Tail) → now ≡ before ++ pairs_from walk a → new ≡ now ++ pairs_from walk b → c ≡ a ++ b → new ≡ before ++ pairs_from walk c
+grown : (walk : Walk) (before now new : List Pair) (a b c : List Tail) → now ≡ before ++ pairs_from walk a → new ≡ now ++ pairs_from walk b
+    → c ≡ a ++ b → new ≡ before ++ pairs_from walk c
 grown walk before now new a b c e f g =
     f ∙ ap (λ r. r ++ pairs_from walk b) e ∙ append_assoc before (pairs_from walk a) (pairs_from walk b)
     ∙ ap (λ r. before ++ r) (sym (pairs_from-append walk a b) ∙ ap (pairs_from walk) (sym g))
@@ -57,7 +59,8 @@ joined-next l r left right tail =
     ap₂ (λ (x : List ℕ) (y : List ℕ). let p : Pair = record { left = x; right = y } in p)
     (append_assoc l (left ∷ []) (map (λ p. p.0) tail)) (append_assoc r (right ∷ []) (map (λ p. p.1) tail))
 
-map-joined-next : (l r : List ℕ) (left right : ℕ) (ways : List Tail) → map (joined (l ++ left ∷ []) (r ++ right ∷ [])) ways ≡ map (joined l r) (with_levels left right ways)
+map-joined-next : (l r : List ℕ) (left right : ℕ) (ways : List Tail)
+    → map (joined (l ++ left ∷ []) (r ++ right ∷ [])) ways ≡ map (joined l r) (with_levels left right ways)
 map-joined-next l r left right [] = refl
 map-joined-next l r left right (tail ∷ ways) = ap₂ (λ p ps. p ∷ ps) (joined-next l r left right tail) (map-joined-next l r left right ways)
 
@@ -71,7 +74,8 @@ found_next counts walk next left right h =
 all_push : (xs : List ℕ) (y : ℕ) → All (λ n. n ≤ 25) xs → y ≤ 25 → All (λ n. n ≤ 25) (xs ++ y ∷ [])
 all_push xs y h l = All-push (λ n. n ≤ 25) xs y h l
 
-pub next_is_walk : (counts : List ℕ) (walk next : Walk) (left right : ℕ) → IsWalk counts walk → walk.place < length counts → left ≤ 25 → right ≤ 25 → IsNext walk next left right → IsWalk counts next
+pub next_is_walk : (counts : List ℕ) (walk next : Walk) (left right : ℕ) → IsWalk counts walk → walk.place < length counts → left ≤ 25 → right ≤ 25
+    → IsNext walk next left right → IsWalk counts next
 next_is_walk counts walk next left right h more l r e = record {
   some = h.some;
   most = h.most;
@@ -90,7 +94,8 @@ flat_map-nil : {A : Type 0} (f : ℕ → List A) (xs : List ℕ) → ((x : ℕ) 
 flat_map-nil f [] h = refl
 flat_map-nil f (x ∷ xs) h = ap₂ (λ a b. a ++ b) (h x) (flat_map-nil f xs h)
 
-option_tails-nil : (rest : Stage → List Tail) (left right : ℕ) (o : Option Stage) → ((next : Stage) → rest next ≡ []) → option_map_or (λ next. with_levels left right (rest next)) o [] ≡ []
+option_tails-nil : (rest : Stage → List Tail) (left right : ℕ) (o : Option Stage) → ((next : Stage) → rest next ≡ [])
+    → option_map_or (λ next. with_levels left right (rest next)) o [] ≡ []
 option_tails-nil rest left right None h = refl
 option_tails-nil rest left right (Some next) h = ap (with_levels left right) (h next)
 

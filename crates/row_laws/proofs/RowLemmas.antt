@@ -104,7 +104,8 @@ plus-append [] b (y ∷ c) d e = absurd (omega arith)
 plus-append (x ∷ a) b [] d e = absurd (omega arith)
 plus-append (x ∷ a) b (y ∷ c) d e = ap (λ r. (x +ℤ y) ∷ r) (plus-append a b c d (omega arith))
 
-pub dot-take_more : (a b : List ℤ) (i : ℕ) → i < length a → length b ≡ length a → dot (take (i + 1) a) (take (i + 1) b) ≡ dot (take i a) (take i b) +ℤ get_or a i (pos 0) *ℤ get_or b i (pos 0)
+pub dot-take_more : (a b : List ℤ) (i : ℕ) → i < length a → length b ≡ length a
+    → dot (take (i + 1) a) (take (i + 1) b) ≡ dot (take i a) (take i b) +ℤ get_or a i (pos 0) *ℤ get_or b i (pos 0)
 dot-take_more a b i l e =
     let m : i < length b = omega arith in
     let same : length (take i a) ≡ length (take i b) = simp length-take (omega arith) in
@@ -149,7 +150,8 @@ plus-read (x ∷ a) (y ∷ r) zero h k = absurd (omega (arith, h))
 plus-read (x ∷ a) (y ∷ r) (suc i) h k = plus-read a r i (omega arith) (omega arith)
 
 -- one place more of a row changes one sum more
-pub plus-push : (a r : List ℤ) (y : ℤ) → length r < length a → plus a (r ++ y ∷ []) ≡ set (plus a r) (length r) (get_or (plus a r) (length r) (pos 0) +ℤ y)
+pub plus-push : (a r : List ℤ) (y : ℤ) → length r < length a
+    → plus a (r ++ y ∷ []) ≡ set (plus a r) (length r) (get_or (plus a r) (length r) (pos 0) +ℤ y)
 plus-push [] r y h = absurd (omega (arith, h))
 plus-push (x ∷ a) [] y h = ap (λ rest. (x +ℤ y) ∷ rest) (plus-nil a)
 plus-push (x ∷ a) (z ∷ r) y h = ap (λ rest. (x +ℤ z) ∷ rest) (plus-push a r y (omega arith))
@@ -183,7 +185,8 @@ plus-append_after (x ∷ a) (z ∷ r) s h =
     rw more (ap (λ rest. (x +ℤ z) ∷ rest) (plus-append_after a r s (omega arith)))
 
 -- a multiple of a row of -1, 0 and 1 makes sums larger by its factor at most
-pub plus-times_small : (a : List ℤ) (w : ℤ) (row : List ℤ) (b n : ℕ) → All (λ x. unsigned_abs x ≤ b) a → unsigned_abs w ≤ n → All (λ x. unsigned_abs x ≤ 1) row → length row ≤ length a
+pub plus-times_small : (a : List ℤ) (w : ℤ) (row : List ℤ) (b n : ℕ) → All (λ x. unsigned_abs x ≤ b) a → unsigned_abs w ≤ n
+    → All (λ x. unsigned_abs x ≤ 1) row → length row ≤ length a
     → All (λ x. unsigned_abs x ≤ b + n) (plus a (times w row))
 plus-times_small [] w [] b n small weight unit len = All-nil (λ x. unsigned_abs x ≤ b + n)
 plus-times_small [] w (y ∷ row) b n small weight unit len = absurd (omega (arith, len))

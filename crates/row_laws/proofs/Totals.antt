@@ -32,7 +32,8 @@ total_same f g (c ∷ numbers) h =
 linear_step : (x y f g c p q : ℤ) → (x *ℤ f +ℤ y *ℤ g) *ℤ c +ℤ (x *ℤ p +ℤ y *ℤ q) ≡ x *ℤ (f *ℤ c +ℤ p) +ℤ y *ℤ (g *ℤ c +ℤ q)
 linear_step x y f g c p q = omega (arith, sums, add-mul (x *ℤ f) (y *ℤ g) c, mul_assoc x f c, mul_assoc y g c, mul-add x (f *ℤ c) p, mul-add y (g *ℤ c) q)
 
-pub total_linear : (x y : ℤ) (f g : ℕ → ℤ) (numbers : List ℤ) → total (λ i. x *ℤ f i +ℤ y *ℤ g i) numbers ≡ x *ℤ total f numbers +ℤ y *ℤ total g numbers
+pub total_linear : (x y : ℤ) (f g : ℕ → ℤ) (numbers : List ℤ)
+    → total (λ i. x *ℤ f i +ℤ y *ℤ g i) numbers ≡ x *ℤ total f numbers +ℤ y *ℤ total g numbers
 total_linear x y f g [] = omega (arith, sums, mul-zero x, mul-zero y)
 total_linear x y f g (c ∷ numbers) =
     ap (λ (n : ℤ). (x *ℤ f 0 +ℤ y *ℤ g 0) *ℤ c +ℤ n) (total_linear x y (λ i. f (suc i)) (λ i. g (suc i)) numbers)

@@ -20,7 +20,8 @@ pub bounds-table-degree : goal.bounds-table-degree
 bounds-table-degree c = omega (arith, length-le-increments c.args.counts.now c.requires.two_levels)
 
 -- the term that is added: what it is, and how large
-term : (c : goal.In-loop-degree) → (1 * 2 ^ (c.loop-degree.degree - 1) % 2 ^ 64 - 1) * get_or c.level_pairs-table.result c.loop-degree.degree 0 ≡ classes_of_degree c.args.counts.now c.loop-degree.degree
+term : (c : goal.In-loop-degree)
+    → (1 * 2 ^ (c.loop-degree.degree - 1) % 2 ^ 64 - 1) * get_or c.level_pairs-table.result c.loop-degree.degree 0 ≡ classes_of_degree c.args.counts.now c.loop-degree.degree
 term c =
     term_is c.args.counts.now c.loop-degree.degree _ _
     (shifted_one (c.loop-degree.degree - 1) (omega (arith, length-le-increments c.args.counts.now c.requires.two_levels)))

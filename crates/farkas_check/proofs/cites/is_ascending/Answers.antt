@@ -12,7 +12,8 @@ abbrev number_of : Cite → ℕ
 number_of cite = cite.answer
 
 -- two neighbours that are answered true are in order, two that are answered false aren't
-ascending : (items : List Cite) (r : Bool) → IsAllAdjacentAnswer (λ x y b. b ≡ ltb x.answer y.answer) items r → IsTrue r ↔ IsStrictlyIncreasing (map number_of items)
+ascending : (items : List Cite) (r : Bool) → IsAllAdjacentAnswer (λ x y b. b ≡ ltb x.answer y.answer) items r
+    → IsTrue r ↔ IsStrictlyIncreasing (map number_of items)
 ascending items true h = (
   λ _ k within.
       let within' : k + 1 < length items = omega (arith, length-map items number_of) in

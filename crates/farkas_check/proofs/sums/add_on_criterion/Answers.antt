@@ -10,7 +10,8 @@ use Rattle.criteria_model.proofs.LevelLemmas.{length-has_on, minus-has_on-more}
 use Rattle.farkas_check.proofs.sums.add_on_criterion.Goals as goal
 
 -- levels that are equal change nothing
-unchanged : (sums : List ℤ) (level : ℕ) (weight : ℤ) → sums ≡ plus sums (times weight (minus (has_on (length sums + 1) level) (has_on (length sums + 1) level)))
+unchanged : (sums : List ℤ) (level : ℕ) (weight : ℤ)
+    → sums ≡ plus sums (times weight (minus (has_on (length sums + 1) level) (has_on (length sums + 1) level)))
 unchanged sums level weight =
     rw (minus-self (has_on (length sums + 1) level), times-zeros weight (length (has_on (length sums + 1) level)))
     (sym (plus-zeros sums (length (has_on (length sums + 1) level)) (omega (arith, length-has_on (length sums + 1) level))))

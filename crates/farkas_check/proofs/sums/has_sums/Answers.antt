@@ -17,7 +17,8 @@ module _ (c : After-as_slice-row) where
   row_len : length c.as_slice-row.result.now ≡ increments c.args.model.now.levels
   row_len = ap length row_is ∙ length-gain c.args.model.now.levels c.args.pair.now c.args.verdict c.requires.pair_fits
 
-  sum_is : (place : ℕ) → entry c.add_cites.new.sums place ≡ sum_of_cites c.args.model.now.levels c.args.answers.now.answers c.args.combination.now.answers place +ℤ entry c.args.combination.now.increments place
+  sum_is : (place : ℕ)
+      → entry c.add_cites.new.sums place ≡ sum_of_cites c.args.model.now.levels c.args.answers.now.answers c.args.combination.now.answers place +ℤ entry c.args.combination.now.increments place
   sum_is place = rw (c.as_slice.ensures, c.as_slice-2.ensures.value, c.copy_from_slice.ensures.after, c.as_slice-own.ensures.value) at c.add_cites.ensures place
 
 pub is_multiple-requires-clause-len : goal.is_multiple-requires-clause-len

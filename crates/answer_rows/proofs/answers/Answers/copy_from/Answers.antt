@@ -5,7 +5,8 @@ use Rattle.criteria_model.specs.declared.pairs.Answer.{Answer}
 use Rattle.answer_rows.specs.Room.{BeginsWith}
 use Rattle.answer_rows.proofs.answers.Answers.copy_from.Goals as goal
 
-copied : (front whole : List Answer) (spare : ℕ) → BeginsWith whole front → front ++ take (min (length whole - length front) spare) (drop (length front) whole) ≡ take (length front + spare) whole
+copied : (front whole : List Answer) (spare : ℕ) → BeginsWith whole front
+    → front ++ take (min (length whole - length front) spare) (drop (length front) whole) ≡ take (length front + spare) whole
 copied front whole spare begins =
     let rest = drop (length front) whole in
     let fewer : min (length whole - length front) spare ≡ min spare (length rest) = simp length-drop (omega arith) in

@@ -6,7 +6,7 @@ use Rattle.row_laws.specs.Rows.{dot}
 use Rattle.row_laws.proofs.Integers.{read_back}
 use Rattle.criteria_model.specs.declared.pairs.Side.TheVariants.{Left as LeftSide, Right as RightSide, Equal as EqualSide}
 use Rattle.criteria_model.specs.Answers.{gain}
-use Rattle.criteria_model.proofs.GainLemmas.{length-gain, leads_ranks, leads_only}
+use Rattle.criteria_model.proofs.GainLemmas.{length-gain, lead_ranks}
 use Rattle.criteria_model.proofs.models.Model.ranking.Goals as goal
 use Rattle.criteria_model.proofs.models.Model.ranking.Goals.{After-cmp}
 
@@ -19,18 +19,18 @@ lead_is c = read_back w128 c.dot-lead.result (let small = c.dot-lead.ensures.ran
 
 pub returns-in-Greater : goal.returns-in-Greater
 returns-in-Greater c =
-    let lead = lead_is (goal.at.returns-in-Greater c).After-cmp in
     let more = int_ranked _ (pos 0) Greater (sym c.in-Greater.is ∙ c.cmp.ensures) in
-    record { ranks = leads_ranks c.args.self.now.levels c.args.vector.now c.args.pair.now _ lead LeftSide more; only = λ side. leads_only c.args.self.now.levels c.args.vector.now c.args.pair.now _ lead LeftSide side more }
+    let ranked = lead_ranks c.args.self.now.levels c.args.vector.now c.args.pair.now _ (lead_is (goal.at.returns-in-Greater c).After-cmp) LeftSide more in
+    record { ranks = ranked.0; only = ranked.1 }
 
 pub returns-in-Less : goal.returns-in-Less
 returns-in-Less c =
-    let lead = lead_is (goal.at.returns-in-Less c).After-cmp in
     let less = int_ranked _ (pos 0) Less (sym c.in-Less.is ∙ c.cmp.ensures) in
-    record { ranks = leads_ranks c.args.self.now.levels c.args.vector.now c.args.pair.now _ lead RightSide less; only = λ side. leads_only c.args.self.now.levels c.args.vector.now c.args.pair.now _ lead RightSide side less }
+    let ranked = lead_ranks c.args.self.now.levels c.args.vector.now c.args.pair.now _ (lead_is (goal.at.returns-in-Less c).After-cmp) RightSide less in
+    record { ranks = ranked.0; only = ranked.1 }
 
 pub returns-in-Equal : goal.returns-in-Equal
 returns-in-Equal c =
-    let lead = lead_is (goal.at.returns-in-Equal c).After-cmp in
     let same = int_ranked _ (pos 0) Equal (sym c.in-Equal.is ∙ c.cmp.ensures) in
-    record { ranks = leads_ranks c.args.self.now.levels c.args.vector.now c.args.pair.now _ lead EqualSide same; only = λ side. leads_only c.args.self.now.levels c.args.vector.now c.args.pair.now _ lead EqualSide side same }
+    let ranked = lead_ranks c.args.self.now.levels c.args.vector.now c.args.pair.now _ (lead_is (goal.at.returns-in-Equal c).After-cmp) EqualSide same in
+    record { ranks = ranked.0; only = ranked.1 }
