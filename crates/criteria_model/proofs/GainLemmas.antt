@@ -1,5 +1,5 @@
 -- Gains: their length and range, what they say of rankings, and that replicas have the same.
-use Rattle.std.proofs.Common.{◌≡◌, inl, inr, ℕ, List, ℤ, refl, ap, sym, arith, length, pos, ◌-ℤ◌, ◌<ℤ◌, ◌≤ℤ◌}
+use Rattle.std.proofs.Common.{◌≡◌, inl, inr, ℕ, List, ℤ, refl, ap, sym, ◌∙◌, arith, length, pos, ◌-ℤ◌, ◌<ℤ◌, ◌≤ℤ◌}
 use Rattle.std.proofs.lemmas.Int.{ints}
 use Rattle.criteria_model.specs.declared.pairs.Pair.{Pair}
 use Rattle.criteria_model.specs.declared.pairs.Side.{Side}
@@ -61,37 +61,16 @@ replicas_gain_same_lem levels p q Right r = minus-has-matched levels p.right p.l
 replicas_gain_same_lem levels p q Equal r = minus-has-matched levels p.left p.right q.left q.right (replicas_match levels p q r)
 
 worths_apart : (levels : List ℕ) (values : List ℤ) (p q : Pair) → AreReplicas levels p q
-    → dot values (minus (has levels p.left) (has levels p.right)) ≡ dot values (minus (has levels q.left) (has levels q.right))
-worths_apart levels values p q r = ap (dot values) (replicas_gain_same_lem levels p q Left r)
+    → dot values (has levels p.left) -ℤ dot values (has levels p.right) ≡ dot values (has levels q.left) -ℤ dot values (has levels q.right)
+worths_apart levels values p q r =
+    sym (dot-minus values (has levels p.left) (has levels p.right))
+    ∙ ap (dot values) (replicas_gain_same_lem levels p q Left r)
+    ∙ dot-minus values (has levels q.left) (has levels q.right)
 
 pub replicas_rank_same_lem : ReplicasRankSame
-replicas_rank_same_lem levels values p q Left r h =
-    omega (
-      arith,
-      ints,
-      h,
-      worths_apart levels values p q r,
-      dot-minus values (has levels p.left) (has levels p.right),
-      dot-minus values (has levels q.left) (has levels q.right),
-    )
-replicas_rank_same_lem levels values p q Right r h =
-    omega (
-      arith,
-      ints,
-      h,
-      worths_apart levels values p q r,
-      dot-minus values (has levels p.left) (has levels p.right),
-      dot-minus values (has levels q.left) (has levels q.right),
-    )
-replicas_rank_same_lem levels values p q Equal r h =
-    omega (
-      arith,
-      ints,
-      h,
-      worths_apart levels values p q r,
-      dot-minus values (has levels p.left) (has levels p.right),
-      dot-minus values (has levels q.left) (has levels q.right),
-    )
+replicas_rank_same_lem levels values p q Left r h = omega (arith, ints, h, worths_apart levels values p q r)
+replicas_rank_same_lem levels values p q Right r h = omega (arith, ints, h, worths_apart levels values p q r)
+replicas_rank_same_lem levels values p q Equal r h = omega (arith, ints, h, worths_apart levels values p q r)
 
 -- ---- which way values rank a pair, by the lead of its left side
 abbrev pub Leads : Side → ℤ → Type 0

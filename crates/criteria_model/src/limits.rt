@@ -9,5 +9,6 @@ pub const MAX_LEVEL: u8 = 25;
 /// The most classes of a model.
 pub const MAX_CLASSES: u32 = 16_384;
 
-/// What each number of a value vector or of a combination is below in size.
+/// What the numbers of certificates are below in size: those of value vectors and the weights of cites by
+/// their types.
 pub const CERTIFICATE_BOUND: u128 = 1 << 96;

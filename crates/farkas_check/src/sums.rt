@@ -1,5 +1,5 @@
 //! What a combination sums to at each increment.
-ghost use Rattle.std.specs.Prelude.{◌≡◌, ◌↔◌, ℕ, ◌+◌, ◌^◌, ◌<◌, ◌≤◌, length, All, IsTrue, unsigned_abs, ◌+ℤ◌, ◌-ℤ◌, ◌*ℤ◌};
+ghost use Rattle.std.specs.Prelude.{◌≡◌, ◌↔◌, ℕ, ◌+◌, ◌<◌, ◌≤◌, length, All, IsTrue, unsigned_abs, ◌+ℤ◌, ◌-ℤ◌, ◌*ℤ◌};
 ghost use Rattle.row_laws.specs.Rows.{entry, plus, minus, times};
 ghost use Rattle.criteria_model.specs.Worth.{increments, has, has_on, lies_above};
 ghost use Rattle.criteria_model.specs.Criteria.{IsModel};
@@ -13,6 +13,9 @@ use crate::cites::Cite;
 use crate::combination::Combination;
 use answer_rows::{Answer, Answers};
 use criteria_model::{CERTIFICATE_BOUND, MAX_INCREMENTS, Model, Pair, Side};
+
+// What each sum is below in size while another cite may come.
+const SUM_BOUND: u128 = 1 << 120;
 
 /// Whether scale times the verdict's gain is the sum of the cites and the own weight, at each increment.
 pub fn has_sums(
@@ -64,7 +67,7 @@ fn add_cites(sums: &mut [i128], model: &Model, answers: &[Answer], cites: &[Cite
 fn add_answer(sums: &mut [i128], model: &Model, answer: &Answer, weight: i128)
     requires len { length sums.old ≡ increments model.now.levels }
     requires fits { IsFit model.now.levels answer.now.pair }
-    requires sums { All (λ x. unsigned_abs x < 2 ^ 120) sums.old }
+    requires sums { All (λ x. unsigned_abs x < SUM_BOUND) sums.old }
     requires weight { unsigned_abs weight < CERTIFICATE_BOUND }
     ensures { sums.new ≡ plus sums.old (times weight (gain model.now.levels answer.now.pair answer.now.side)) }
 {
@@ -81,7 +84,7 @@ fn add_lead(sums: &mut [i128], model: &Model, winner: &[u8], loser: &[u8], weigh
     requires len { length sums.old ≡ increments model.now.levels }
     requires winner { length winner.now ≡ length model.now.levels }
     requires loser { length loser.now ≡ length model.now.levels }
-    requires sums { All (λ x. unsigned_abs x < 2 ^ 120) sums.old }
+    requires sums { All (λ x. unsigned_abs x < SUM_BOUND) sums.old }
     requires weight { unsigned_abs weight < CERTIFICATE_BOUND }
     ensures { sums.new ≡ plus sums.old (times weight (minus (has model.now.levels winner.now) (has model.now.levels loser.now))) }
 {
@@ -97,7 +100,7 @@ fn add_lead(sums: &mut [i128], model: &Model, winner: &[u8], loser: &[u8], weigh
 
 /// The same on the increments of one criterion, from its lowest on.
 fn add_on_criterion(sums: &mut [i128], winner: u8, loser: u8, weight: i128)
-    requires sums { All (λ x. unsigned_abs x < 2 ^ 120) sums.old }
+    requires sums { All (λ x. unsigned_abs x < SUM_BOUND) sums.old }
     requires weight { unsigned_abs weight < CERTIFICATE_BOUND }
     ensures { sums.new
         ≡ plus sums.old (times weight (minus (has_on (length sums.old + 1) winner) (has_on (length sums.old + 1) loser))) }

@@ -1,6 +1,7 @@
 -- Two alternatives that need a question have one place and one flip.
-use Rattle.std.proofs.Common.{◌≡◌, inl, inr, ℕ, List, Option, Some, None, IsSome, refl, ap, ap₂, sym, ◌∙◌, subst, true≢false}
+use Rattle.std.proofs.Common.{◌≡◌, ◌↔◌, inl, inr, ℕ, List, Option, Some, None, IsSome, IsTrue, false, refl, ap, ap₂, sym, ◌∙◌, subst, true≢false}
 use Rattle.criteria_model.specs.declared.pairs.Pair.{Pair}
+use Rattle.criteria_model.specs.Criteria.{Criteria}
 use Rattle.criteria_model.specs.Classes.{IsClass}
 use Rattle.criteria_model.specs.Pairs.{AreReplicas}
 use Rattle.pair_enumeration.specs.declared.flips.Flip.{Flip}
@@ -102,6 +103,10 @@ pub each_pair_has_one_place_lem : EachPairHasOnePlace
 each_pair_has_one_place_lem listed a b place other_place flip other_flip l p q = one_place listed a b place other_place flip other_flip l (record { first = p; second = q })
 
 -- ---- a result that isn't there
+-- a pair that was searched in vain is no class
+pub unlisted : (criteria : Criteria) (pair written : Pair) → IsTrue false ↔ IsClass criteria pair → pair ≡ written → ¬ IsClass criteria written
+unlisted criteria pair written h same class = true≢false (sym (h.1 (subst (IsClass criteria) (sym same) class)))
+
 pub none_is : {X : Type 0} (o : Option X) → o ≡ None → IsSome o → ⊥
 none_is None e h = true≢false (sym h)
 none_is (Some x) e h = absurd cc

@@ -25,7 +25,7 @@ IsTail (n ∷ levels) d stage (p ∷ tail) =
     ((p ≡ (0, 0)) × IsTail levels d stage tail) ⊎ ((next : Stage) × Differs n d stage next p × IsTail levels (d - 1) next tail)
 
 -- ---- each listed tail is one
-option_found : (rest : Stage → List Tail) (o : Option Stage) (l r : ℕ) (t : Tail) → Among t (option_map_or (λ next. with_levels l r (rest next)) o [])
+pub option_found : (rest : Stage → List Tail) (o : Option Stage) (l r : ℕ) (t : Tail) → Among t (option_map_or (λ next. with_levels l r (rest next)) o [])
     → (next : Stage) × (o ≡ Some next) × ((u : Tail) × Among u (rest next) × ((l, r) ∷ u ≡ t))
 option_found rest None l r t h = absurd h
 option_found rest (Some next) l r t h = (next, refl, among-map (λ tail. (l, r) ∷ tail) t (rest next) h)

@@ -10,7 +10,7 @@ use Rattle.pair_enumeration.specs.declared.walks.Stage.{Stage}
 use Rattle.pair_enumeration.specs.declared.walks.Stage.TheVariants.{Same, Left, Both}
 use Rattle.pair_enumeration.specs.Walks.{stage_after, Tail, with_levels, option_tails, row_tails, differing_tails, tails, joined, listed_classes, codes, Precedes}
 use Rattle.pair_enumeration.proofs.Members.{Among, Sorted, among-map, among-flat_map, among-range, sorted-append, sorted-map, sorted-flat_map-range}
-use Rattle.pair_enumeration.proofs.TailMembers.{differing_found, tails_are}
+use Rattle.pair_enumeration.proofs.TailMembers.{option_found, differing_found, tails_are}
 use Rattle.pair_enumeration.proofs.TailClasses.{from_tail, after_differs, zip-lefts}
 
 pub cmp_less : (a b : ℕ) → a < b → nat_cmp a b ≡ Less
@@ -67,8 +67,7 @@ option_sorted rest (Some next) l r h = with_levels_sorted l r (rest next) (h nex
 -- the first levels of what an option gives
 option_head : (rest : Stage → List Tail) (o : Option Stage) (l r : ℕ) (t : Tail) → Among t (option_map_or (λ next. with_levels l r (rest next)) o [])
     → (u : Tail) × ((l, r) ∷ u ≡ t)
-option_head rest None l r t h = absurd h
-option_head rest (Some next) l r t h = let a = among-map (λ u. (l, r) ∷ u) t (rest next) h in (a.0, a.2)
+option_head rest o l r t h = let found = option_found rest o l r t h in (found.2.0, found.2.2)
 
 row_head : (rest : Stage → List Tail) (stage : Stage) (n l : ℕ) (t : Tail) → Among t (row_tails rest stage n l)
     → (r : ℕ) × (1 ≤ r) × ((u : Tail) × ((l, r) ∷ u ≡ t))

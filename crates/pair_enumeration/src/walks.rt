@@ -60,7 +60,7 @@ struct Walk {
 }
 
 impl Walk {
-    /// The walk before the first criterion, with so many differences to come.
+    /// The walk before the first criterion, with a number of differences to come.
     fn start(degree: usize) -> Walk
         ensures place { result.place ≡ 0 }
         ensures rest { result.rest ≡ degree }

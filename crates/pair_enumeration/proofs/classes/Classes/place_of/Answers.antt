@@ -2,7 +2,7 @@ use Rattle.std.proofs.Common.{Some, refl, ap, sym, ◌∙◌, subst, true≢fals
 use Rattle.criteria_model.specs.Classes.{IsClass}
 use Rattle.pair_enumeration.specs.declared.flips.Flip.TheVariants.{Kept, Turned}
 use Rattle.pair_enumeration.proofs.PlaceLemmas.{AreAlternatives, written_pair}
-use Rattle.pair_enumeration.proofs.PlaceLaws.{is_place_of, class_question, only_place, no_place, no_question, none_is}
+use Rattle.pair_enumeration.proofs.PlaceLaws.{unlisted, is_place_of, class_question, only_place, no_place, no_question, none_is}
 use Rattle.pair_enumeration.proofs.classes.Classes.place_of.Goals as goal
 
 pub returns-in-Some-clause-some : goal.returns-in-Some-clause-some
@@ -25,15 +25,15 @@ returns-in-Some-clause-only c =
 pub returns-in_err-place-clause-some : goal.returns-in_err-place-clause-some
 returns-in_err-place-clause-some c =
     let h : AreAlternatives c.args.self.now.criteria.levels c.args.a.now c.args.b.now = record { first = c.requires.a_fits; second = c.requires.b_fits } in
-    let n : ¬ IsClass c.args.self.now.criteria (written_pair c.args.a.now c.args.b.now) = λ k. true≢false (sym (c.in_default.ensures.some.1 (subst (IsClass c.args.self.now.criteria) (sym c.cancelled_pair.ensures) k))) in
-    let m : ¬ IsClass c.args.self.now.criteria (written_pair c.args.b.now c.args.a.now) = λ k. true≢false (sym (c.in_err-place.ensures.some.1 (subst (IsClass c.args.self.now.criteria) (sym c.cancelled_pair-2.ensures) k))) in
+    let n = unlisted c.args.self.now.criteria _ (written_pair c.args.a.now c.args.b.now) c.in_default.ensures.some c.cancelled_pair.ensures in
+    let m = unlisted c.args.self.now.criteria _ (written_pair c.args.b.now c.args.a.now) c.in_err-place.ensures.some c.cancelled_pair-2.ensures in
     (λ s. absurd (none_is c.from_residual.result c.from_residual.ensures s), λ q. absurd (no_question c.args.self.now c.args.a.now c.args.b.now h n m q))
 
 pub returns-in_err-place-clause-only : goal.returns-in_err-place-clause-only
 returns-in_err-place-clause-only c =
     let h : AreAlternatives c.args.self.now.criteria.levels c.args.a.now c.args.b.now = record { first = c.requires.a_fits; second = c.requires.b_fits } in
-    let n : ¬ IsClass c.args.self.now.criteria (written_pair c.args.a.now c.args.b.now) = λ k. true≢false (sym (c.in_default.ensures.some.1 (subst (IsClass c.args.self.now.criteria) (sym c.cancelled_pair.ensures) k))) in
-    let m : ¬ IsClass c.args.self.now.criteria (written_pair c.args.b.now c.args.a.now) = λ k. true≢false (sym (c.in_err-place.ensures.some.1 (subst (IsClass c.args.self.now.criteria) (sym c.cancelled_pair-2.ensures) k))) in
+    let n = unlisted c.args.self.now.criteria _ (written_pair c.args.a.now c.args.b.now) c.in_default.ensures.some c.cancelled_pair.ensures in
+    let m = unlisted c.args.self.now.criteria _ (written_pair c.args.b.now c.args.a.now) c.in_err-place.ensures.some c.cancelled_pair-2.ensures in
     λ place flip p. absurd (no_place c.args.self.now c.args.a.now c.args.b.now place flip c.in_default.ensures.listed h n m p)
 
 pub returns-clause-some : goal.returns-clause-some
