@@ -1,4 +1,4 @@
-// The numbers of a model, from the level counts of its criteria.
+//! The numbers of a model, from the level counts of its criteria.
 ghost use Rattle.std.specs.Prelude.{◌≡◌, ℕ, ◌+◌, ◌*◌, ◌-◌, ◌/◌, ◌^◌, ◌<◌, ◌≤◌, length, All, slice_index};
 ghost use Rattle.criteria_model.specs.Worth.{increments};
 ghost use Rattle.criteria_model.specs.Counts.{class_count, level_pairs as level_pairs_of};

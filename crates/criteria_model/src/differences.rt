@@ -1,4 +1,4 @@
-// For each increment, what one list of levels has more than another.
+//! For each increment, what one list of levels has more than another.
 ghost use Rattle.std.specs.Prelude.{◌≡◌, ◌+◌, ◌≤◌, ◌-ℤ◌, length, take};
 ghost use Rattle.row_laws.specs.Rows.{minus};
 ghost use Rattle.criteria_model.specs.Worth.{increments, has, has_on, lies_above};

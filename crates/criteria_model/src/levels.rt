@@ -1,4 +1,4 @@
-// Comparisons of two lists of levels, criterion by criterion.
+//! Comparisons of two lists of levels, criterion by criterion.
 ghost use Rattle.std.specs.Prelude.{◌≡◌, ◌↔◌, ◌≤◌, length, IsTrue, EachIndex, slice_index};
 ghost use Rattle.criteria_model.specs.Alternatives.{IsSomewhereHigher, IsUndominated, degree as degree_between};
 ghost use Rattle.criteria_model.specs.Pairs.{FitsAt, IsCancelled, IsLeftFirst};

@@ -1,4 +1,4 @@
-// The limits of models, and of the numbers in certificates.
+//! The limits of models, and of the numbers in certificates.
 
 /// The most increments of a model, and so the most criteria.
 pub const MAX_INCREMENTS: usize = 24;

@@ -79,7 +79,7 @@ fn add_answer(sums: &mut [i128], model: &Model, answer: &Answer, weight: i128)
     }
 }
 
-/// Adds weight at each increment that the winner alone has, and takes it away at each that the loser alone has.
+/// Adds weight at each increment that only the winner has, and takes it away at each that only the loser has.
 fn add_lead(sums: &mut [i128], model: &Model, winner: &[u8], loser: &[u8], weight: i128)
     requires len { length sums.old ≡ increments model.now.levels }
     requires winner { length winner.now ≡ length model.now.levels }

@@ -14,7 +14,7 @@ pub record Arranged : Type 0 where
   pub order : List ℕ
   pub room : ℕ
 
--- `place` tells of each number where it stands
+-- `place` gives of each number where it stands
 pub record TellsPlaces (order place : List ℕ) : Type 0 where
   pub len : length place ≡ length order
   pub place_below : (number : ℕ) → number < length order → slice_index place number < length order

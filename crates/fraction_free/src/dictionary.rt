@@ -48,7 +48,7 @@ impl Dictionary {
     ghost use Rattle.fraction_free.specs.Dictionary.{DictionaryView, IsDictionary, Satisfies, entry_in, constant_in, loaded_at};
     ghost use Rattle.fraction_free.specs.Changes.{empty_dictionary, next_count, AddsRow, IsPivoted, DropsRow, DropsLast};
 
-    /// A dictionary with no rows, and with room for so many columns and rows.
+    /// A dictionary with no rows, and with room for this many columns and rows.
     pub fn reserve(alloc: Global, cols: u8, rows: u32) -> Result<Dictionary, NoMemory>
         requires cols_some { 1 ≤ cols }
         requires cols_most { cols ≤ MAX_INCREMENTS }

@@ -6,7 +6,7 @@ ghost use Rattle.fraction_free.specs.Arrangement.{IsArrangement};
 use std::alloc::{AllocError, Global};
 use std::marker::Model;
 
-/// A list that holds each of the numbers below its length once, and tells where.
+/// A list that holds each of the numbers below its length once, and where.
 #[derive(Drop)]
 pub struct Places {
     order: Vec<u32>,
@@ -115,7 +115,7 @@ fn append(numbers: &mut Vec<u32>, number: u32)
     let _pushed = numbers.push(number);
 }
 
-/// Appends so many numbers that rise by one.
+/// Appends this many numbers that rise by one.
 fn count_up(numbers: &mut Vec<u32>, from: u32, count: u32)
     requires room { vec_len numbers.old + count ≤ vec_capacity numbers.old }
     requires small { from + count < 2 ^ 32 }

@@ -46,7 +46,7 @@ row_tails rest stage n left = flat_map (option_tails rest stage left) (range_wit
 abbrev pub differing_tails : (Stage → List Tail) → Stage → ℕ → List Tail
 differing_tails rest stage n = flat_map (row_tails rest stage n) (range_with_len 1 n)
 
--- all ways to go on: so many criteria are still to differ, and in the end each side is higher somewhere
+-- all ways to go on: this many criteria are still to differ, and in the end each side is higher somewhere
 abbrev pub tails : List ℕ → ℕ → Stage → List Tail
 tails [] zero Same = []
 tails [] zero Left = []

@@ -1,4 +1,4 @@
-// The search for a pair in the ordered list of classes.
+//! The search for a pair in the ordered list of classes.
 ghost use Rattle.std.specs.Prelude.{◌≡◌, Some, ◌↔◌, ◌==◌, if◌then◌else◌, ◌<◌, ◌≤◌, ◌^◌, length, All, AllPairs, IsTrue, IfSome, IsSome, Contains, zip};
 ghost use Rattle.criteria_model.specs.declared.pairs.Pair.{Pair};
 ghost use Rattle.criteria_model.specs.Classes.{ComesBefore, order_level as order_level_of};

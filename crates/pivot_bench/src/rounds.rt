@@ -14,7 +14,7 @@ pub enum Rows {
     Largest,
 }
 
-/// Adds so many rows.
+/// Adds this number of rows.
 pub fn fill(work: &mut Dictionary, rows: u32, kind: Rows)
     requires room { length work.old.loaded + rows ≤ work.old.room_rows }
     requires columns { work.old.columns ≡ 24 }

@@ -1,4 +1,4 @@
-// What stands between the model line and the end of a file.
+//! What stands between the model line and the end of a file.
 ghost use Rattle.std.specs.Prelude.{◌≡◌, ◌≢◌, ℕ, OnOk, IfOk, IfErr};
 ghost use Rattle.result_file.specs.Bodies.{Keeps, Starts, Adds, IsOfWhole};
 ghost use Rattle.result_file.specs.Checked.{begun};

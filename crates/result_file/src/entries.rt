@@ -1,4 +1,4 @@
-// The lines of a result.
+//! The lines of a result.
 ghost use Rattle.std.specs.Prelude.{◌≡◌, length, int_le, pos};
 ghost use Rattle.std.specs.List.{list_all};
 ghost use Rattle.criteria_model.specs.Criteria.{Criteria, IsModel};

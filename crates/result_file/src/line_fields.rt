@@ -1,4 +1,4 @@
-// The fields of a line.
+//! The fields of a line.
 ghost use Rattle.std.specs.Prelude.{◌≡◌, ◌<◌, ◌≤◌, None, Some, length, take, MatchOption, IfSome, unsigned_abs};
 ghost use Rattle.text_fields.specs.Spelling.{IsCertificate};
 ghost use Rattle.text_fields.specs.Reading.{ReadsAs, ReadsListAs, read_list};

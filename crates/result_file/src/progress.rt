@@ -1,4 +1,4 @@
-// How far the lines of a file have come.
+//! How far the lines of a file have come.
 ghost use Rattle.std.specs.Prelude.{◌≡◌, ◌≢◌, ◌↔◌, ℕ, ◌≤◌, List, length, IsTrue, IfOk, IfErr};
 ghost use Rattle.result_file.specs.declared.kinds.Kind.{Kind as FileKind};
 ghost use Rattle.result_file.specs.Texts.{longest_line, model_line, end_line};

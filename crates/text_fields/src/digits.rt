@@ -1,4 +1,4 @@
-// The digits at the front of a text.
+//! The digits at the front of a text.
 ghost use Rattle.std.specs.Prelude.{◌≡◌, ◌+◌, ◌^◌, ◌<◌, ◌≤◌, None, Some, length, drop, MatchOption};
 ghost use Rattle.text_fields.specs.Reading.{read_number, begins_number as begins_number_by};
 

@@ -32,7 +32,7 @@ fn two_answers(alloc: Global, model: &Model, first: Answer, second: Answer) -> R
     Ok(answers)
 }
 
-/// A negative weight may stand on an equal answer alone.
+/// A negative weight may stand only on an equal answer.
 #[test]
 fn negative_weight(rt: HostRuntime) -> Result<(), Fail> {
     let model = Model::new(&[2, 2, 2], 3)?;
