@@ -1,5 +1,5 @@
 -- Two alternatives, their written pair and its class.
-use Rattle.std.proofs.Common.{◌≡◌, ◌≢◌, ◌⊎◌, inl, inr, ℕ, zero, suc, ◌+◌, ◌≤◌, ◌<◌, List, [], ◌∷◌, length, get_or, cond, eqb, true, false, Bool, refl, ap, ap₂, sym, ◌∙◌, subst, arith, eq-eqb, ne_eqb, eqb-true, ext_get_or}
+use Rattle.std.proofs.Common.{◌≡◌, ◌≢◌, ◌⊎◌, inl, inr, ℕ, zero, suc, ◌+◌, ◌≤◌, ◌<◌, List, [], ◌∷◌, length, get_or, cond, eqb, true, false, Bool, refl, ap, ap₂, sym, ◌∙◌, subst, arith, eq-eqb, ne_eqb, ext_get_or}
 use Rattle.std.proofs.lemmas.Bool.{cases_eq, cases_order}
 use Rattle.criteria_model.specs.declared.pairs.Pair.{Pair}
 use Rattle.criteria_model.specs.Lists.{IsTuple}

@@ -1,5 +1,5 @@
 -- The search for a pair in the ordered list of classes.
-use Rattle.std.proofs.Common.{◌≡◌, ◌≢◌, ◌⊎◌, ◌↔◌, inl, inr, ℕ, zero, suc, ◌+◌, ◌-◌, ◌≤◌, ◌<◌, List, [], ◌∷◌, length, drop, zip, get_or, ltb, IsTrue, AllPairs, refl, ap, ap₂, sym, ◌∙◌, subst, subst₂, arith, lt-ltb, ltb-true, nat_cmp, Ordering, Less, Equal, Greater, drop-cons, Contains, slice_get, Some, eq-or-lt_of_le}
+use Rattle.std.proofs.Common.{◌≡◌, ◌≢◌, ◌⊎◌, ◌↔◌, inl, inr, ℕ, suc, ◌+◌, ◌-◌, ◌≤◌, ◌<◌, List, ◌∷◌, length, drop, zip, get_or, ltb, IsTrue, AllPairs, ap, ap₂, sym, ◌∙◌, subst, subst₂, arith, lt-ltb, ltb-true, nat_cmp, Ordering, Less, Equal, Greater, drop-cons, Contains, slice_get, Some, eq-or-lt_of_le}
 use Rattle.std.proofs.lemmas.Bool.{cases_order}
 use Rattle.std.specs.Ordering.{ordering_then, ordering_reverse}
 use Rattle.std.specs.Cmp.{nat_cmp_is}
