@@ -3,7 +3,7 @@
 /// The most increments of a model, and so the most criteria.
 pub const MAX_INCREMENTS: usize = 24;
 
-/// The highest level of a criterion.
+/// The highest level of a criterion, which has one level more than increments.
 pub const MAX_LEVEL: u8 = 25;
 
 /// The most classes of a model.
