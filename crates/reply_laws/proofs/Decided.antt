@@ -15,6 +15,7 @@ use Rattle.criteria_model.proofs.GainLemmas.{ranks_favours, favours_ranks}
 use Rattle.row_laws.proofs.RowLemmas.{dot-neg, length-minus}
 use Rattle.std.proofs.lemmas.List.{length-map}
 use Rattle.criteria_model.proofs.LevelLemmas.{length-has_on, increments-cons}
+use Rattle.survey_core.proofs.RankingLemmas.{ranks_once}
 use Rattle.survey_core.proofs.ListSteps.{Each, Each-append, Each-All, All-Each, Each-front, Each-back}
 use Rattle.reply_laws.proofs.RowPoints.{LinearRow, IsShort, MeetsRow, rows_decided}
 use Rattle.survey_replies.specs.Laws.{IsDecided}
@@ -126,20 +127,9 @@ module _ (levels : List ℕ) where
               (Each-append (MeetsRow values) (rows_by pair side) (rows_of answers) (gives_by values pair side ranks) (gives_of values answers (All-Each (Meets levels values) answers meets.each))))
         ]
 
-    apart : (values : List ℤ) (one other : Side) → Ranks levels values pair one → Ranks levels values pair other → one ≡ other
-    apart values Left Left h g = refl
-    apart values Left Right h g = absurd (omega (arith, ints, h, g))
-    apart values Left Equal h g = absurd (omega (arith, ints, h, g))
-    apart values Right Left h g = absurd (omega (arith, ints, h, g))
-    apart values Right Right h g = refl
-    apart values Right Equal h g = absurd (omega (arith, ints, h, g))
-    apart values Equal Left h g = absurd (omega (arith, ints, h, g))
-    apart values Equal Right h g = absurd (omega (arith, ints, h, g))
-    apart values Equal Equal h g = refl
-
     both_open : (one other : Side) → (one ≡ other → ⊥) → Ranked one → Ranked other → IsOpen levels answers pair
     both_open one other differ (v, v_meets, v_ranks) (w, w_meets, w_ranks) side ranked =
-        differ (sym (apart v side one (ranked v v_meets) v_ranks) ∙ apart w side other (ranked w w_meets) w_ranks)
+        differ (sym (ranks_once levels v pair side one (ranked v v_meets) v_ranks) ∙ ranks_once levels w pair side other (ranked w w_meets) w_ranks)
 
     -- any values rank the pair in some way
     some_way : (values : List ℤ) → (¬ Ranks levels values pair Left) → (¬ Ranks levels values pair Right) → Ranks levels values pair Equal

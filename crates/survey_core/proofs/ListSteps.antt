@@ -110,7 +110,7 @@ any_at [] k n h = absurd (none-some n h)
 any_at (x ∷ xs) zero n h = ap (λ b. b || list_any (λ x. x == n) xs) (eq-eqb x n (same_Some x n h))
 any_at (x ∷ xs) (suc k) n h = ap (λ b. (x == n) || b) (any_at xs k n h) ∙ or_true (x == n)
 
-Each-range : (from n : ℕ) → Each (λ q. (from ≤ q) × (q < from + n)) (range_with_len from n)
+pub Each-range : (from n : ℕ) → Each (λ q. (from ≤ q) × (q < from + n)) (range_with_len from n)
 Each-range from zero = tt
 Each-range from (suc n) = (
   (omega arith, omega arith),

@@ -6,6 +6,7 @@ use Rattle.answer_rows.specs.Room.{AnswersWithRoom}
 use Rattle.criteria_model.specs.declared.pairs.Answer.{Answer}
 use Rattle.pair_enumeration.specs.Listed.{Listed, IsListed}
 use Rattle.survey_core.specs.declared.marks.Mark.{Mark}
+use Rattle.criteria_model.specs.declared.limits.TheConstants.{MAX_CLASSES}
 use Rattle.survey_core.specs.declared.limits.TheConstants.{MAX_EVENTS}
 use Rattle.survey_core.specs.Marked.{Table, unmarked, IsMark, is_answer_up_to, IsTableOf, KeepsHistory}
 use Rattle.survey_core.proofs.TableLemmas.{count_none}
@@ -30,7 +31,7 @@ first_table listed =
       answer_count = λ most. omega (arith, count_none (is_answer_up_to most) n unmarked refl);
     }
 
-pub new_kept : (listed : Listed) (answers : AnswersWithRoom) (room : ℕ) → IsListed listed → length listed.classes ≤ 16384 → answers.answers ≡ []
+pub new_kept : (listed : Listed) (answers : AnswersWithRoom) (room : ℕ) → IsListed listed → length listed.classes ≤ MAX_CLASSES → answers.answers ≡ []
     → length listed.classes ≤ answers.spare → MAX_EVENTS ≤ room
     → KeepsHistory listed [] answers (record { classes = replicate (length listed.classes) unmarked; questions = [] }) 0 room
 new_kept listed answers room model few empty spare fits =

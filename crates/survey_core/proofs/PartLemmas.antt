@@ -16,7 +16,7 @@ use Rattle.survey_core.specs.declared.events.Event.{Event}
 use Rattle.survey_core.specs.declared.events.Event.TheVariants.{Eliminate, Issue, Commit, Close, Withdraw}
 use Rattle.survey_core.specs.Histories.{class_at, committed}
 use Rattle.survey_core.specs.Parts.{Part, part, AllHold, FirstFails}
-use Rattle.survey_core.specs.Legal.{IsPlace, ProvesClass, HasFlaw, eliminate_parts, issue_parts, commit_parts, close_parts, withdraw_parts, parts}
+use Rattle.survey_core.specs.Legal.{IsPlace, ProvesClass, HasFirstFlaw, eliminate_parts, issue_parts, commit_parts, close_parts, withdraw_parts, parts}
 use Rattle.survey_core.specs.Laws.{OneFirstPart, AllowedLacksNone}
 use Rattle.survey_core.proofs.ListSteps.{some_and}
 
@@ -124,9 +124,9 @@ two_facts (Some x) P Q apart h k = apart x h k
 module _ (listed : Listed) (history : List Event) where
   -- the part of an Eliminate that has the names of flaws
   proof_part : ℕ → Side → Combination → Part
-  proof_part place verdict c = record { holds = ProvesClass listed history place verdict c; fails = HasFlaw listed history place verdict c }
+  proof_part place verdict c = record { holds = ProvesClass listed history place verdict c; fails = HasFirstFlaw listed history place verdict c }
 
-  flaw_not_both : (place : ℕ) (verdict : Side) (c : Combination) (name : Broken) → HasFlaw listed history place verdict c name
+  flaw_not_both : (place : ℕ) (verdict : Side) (c : Combination) (name : Broken) → HasFirstFlaw listed history place verdict c name
       → ¬ ProvesClass listed history place verdict c
   flaw_not_both place verdict c (broken.Flaw flaw) h proved =
       let levels : List ℕ = listed.criteria.levels in
@@ -135,8 +135,8 @@ module _ (listed : Listed) (history : List Event) where
       (λ pair. IsFirstFlaw levels answers c pair verdict (Some flaw)) (λ pair. proved_has_no_flaw levels answers c pair verdict flaw) proved h
   flaw_not_both place verdict c name h proved = h
 
-  same_flaw : (place : ℕ) (verdict : Side) (c : Combination) (one other : Flaw) → HasFlaw listed history place verdict c (broken.Flaw one)
-      → HasFlaw listed history place verdict c (broken.Flaw other) → one ≡ other
+  same_flaw : (place : ℕ) (verdict : Side) (c : Combination) (one other : Flaw) → HasFirstFlaw listed history place verdict c (broken.Flaw one)
+      → HasFirstFlaw listed history place verdict c (broken.Flaw other) → one ≡ other
   same_flaw place verdict c one other h k =
       let levels : List ℕ = listed.criteria.levels in
       let answers : List Answer = committed listed.classes history in
@@ -146,8 +146,8 @@ module _ (listed : Listed) (history : List Event) where
       let same : a.0 ≡ b.0 = same_Some a.0 b.0 (sym a.1 ∙ b.1) in
       first_flaw_once levels answers c b.0 verdict one other (subst (First one) same a.2) b.2
 
-  flaw_one_name : (place : ℕ) (verdict : Side) (c : Combination) (one other : Broken) → HasFlaw listed history place verdict c one
-      → HasFlaw listed history place verdict c other → one ≡ other
+  flaw_one_name : (place : ℕ) (verdict : Side) (c : Combination) (one other : Broken) → HasFirstFlaw listed history place verdict c one
+      → HasFirstFlaw listed history place verdict c other → one ≡ other
   flaw_one_name place verdict c (broken.Flaw f) (broken.Flaw g) h k = ap broken.Flaw (same_flaw place verdict c f g h k)
   flaw_one_name place verdict c (broken.Flaw f) other h k = absurd k
   flaw_one_name place verdict c one other h k = absurd h

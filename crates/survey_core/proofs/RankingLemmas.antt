@@ -168,7 +168,7 @@ rankings_are_by_answers_lem listed history place side pair legal ranking class =
     subst (λ (p : Pair). IsRanked listed.criteria.levels (committed listed.classes history) p side) (same_Some here.0 pair (sym here.1 ∙ class)) here.2
 
 -- values rank a pair in one way
-ranks_once : (levels : List ℕ) (values : List ℤ) (pair : Pair) (one other : Side) → Ranks levels values pair one → Ranks levels values pair other → one ≡ other
+pub ranks_once : (levels : List ℕ) (values : List ℤ) (pair : Pair) (one other : Side) → Ranks levels values pair one → Ranks levels values pair other → one ≡ other
 ranks_once levels values pair Left Left h k = refl
 ranks_once levels values pair Left Right h k = absurd (omega (arith, ints, h, k))
 ranks_once levels values pair Left Equal h k = absurd (omega (arith, ints, h, k))

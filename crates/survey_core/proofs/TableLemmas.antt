@@ -4,6 +4,7 @@ use Rattle.std.proofs.lemmas.Option.{none-some, same_Some, get_or_from_slice_get
 use Rattle.std.proofs.lemmas.Bool.{cases_lt}
 use Rattle.std.proofs.lemmas.List.{length-set, length-replicate}
 use Rattle.std.specs.List.{count_by}
+use Rattle.criteria_model.specs.declared.limits.TheConstants.{MAX_CLASSES}
 use Rattle.survey_core.specs.declared.marks.Ranking.{Ranking}
 use Rattle.survey_core.specs.declared.marks.Ranking.TheVariants.{Unranked}
 use Rattle.survey_core.specs.declared.marks.Ending.{Ending}
@@ -82,7 +83,7 @@ next_unmarked : (n : ℕ) (mark : Mark) → slice_get (replicate n unmarked) 0 �
 next_unmarked zero mark h = absurd (none-some mark h)
 next_unmarked (suc n) mark h = subst (λ (m : Mark). IsFalse (is_settled m)) (same_Some unmarked mark h) refl
 
-pub new_table : (n room : ℕ) → n ≤ 16384 → n ≤ room → IsTable (record { classes = replicate n unmarked; questions = [] }) room 0 0 0
+pub new_table : (n room : ℕ) → n ≤ MAX_CLASSES → n ≤ room → IsTable (record { classes = replicate n unmarked; questions = [] }) room 0 0 0
 new_table n room few fits = record {
   few = omega (arith, length-replicate n unmarked);
   room_for_all = omega (arith, length-replicate n unmarked);

@@ -1,7 +1,8 @@
 -- Which events may follow a history. Answers, ended questions and ranked classes are those of the standing events, issued
 -- questions those of the whole history.
-use Rattle.std.specs.Prelude.{◌≡◌, ◌⊎◌, ℕ, ◌+◌, ◌*◌, ◌^◌, ◌<◌, ◌≤◌, IsTrue, IsFalse, List, [], ◌∷◌, ◌++◌, length, take, slice_get, Some, IsSomeAnd, unsigned_abs, ℤ}
+use Rattle.std.specs.Prelude.{◌≡◌, ◌⊎◌, ℕ, ◌+◌, ◌*◌, ◌<◌, ◌≤◌, IsTrue, IsFalse, List, [], ◌∷◌, ◌++◌, length, take, slice_get, Some, IsSomeAnd, unsigned_abs, ℤ}
 use Rattle.criteria_model.specs.declared.pairs.Side.{Side}
+use Rattle.criteria_model.specs.declared.limits.TheConstants.{CERTIFICATE_BOUND}
 use Rattle.criteria_model.specs.Worth.{increments, IsValueVector}
 use Rattle.criteria_model.specs.Answers.{MeetsAll, Opens}
 use Rattle.farkas_check.specs.declared.combination.Combination.{Combination}
@@ -23,7 +24,7 @@ IsDesk desk = (1 ≤ desk) × (desk ≤ MAX_DESKS)
 -- an event of a model with these levels: its numbers are in their ranges, its vectors are value vectors
 abbrev pub IsEvent : List ℕ → Event → Type 0
 IsEvent levels (Eliminate worker place verdict combination) =
-    (worker ≤ MAX_WORKERS) × (length combination.increments ≡ increments levels) × (unsigned_abs combination.scale < 2 ^ 96)
+    (worker ≤ MAX_WORKERS) × (length combination.increments ≡ increments levels) × (unsigned_abs combination.scale < CERTIFICATE_BOUND)
 IsEvent levels (Issue desk place plus minus) = IsDesk desk × IsValueVector levels plus × IsValueVector levels minus
 IsEvent levels (Commit desk question side plus minus point) =
     IsDesk desk × IsValueVector levels plus × IsValueVector levels minus × IsValueVector levels point
@@ -44,11 +45,11 @@ ProvesClass listed history place verdict combination =
     IsSomeAnd (class_at listed.classes place) (λ pair. Proves listed.criteria.levels (committed listed.classes history) combination pair verdict)
 
 -- this is the first flaw of that combination
-abbrev pub HasFlaw : Listed → List Event → ℕ → Side → Combination → Broken → Type 0
-HasFlaw listed history place verdict combination (broken.Flaw flaw) =
+abbrev pub HasFirstFlaw : Listed → List Event → ℕ → Side → Combination → Broken → Type 0
+HasFirstFlaw listed history place verdict combination (broken.Flaw flaw) =
     IsSomeAnd (class_at listed.classes place)
     (λ pair. IsFirstFlaw listed.criteria.levels (committed listed.classes history) combination pair verdict (Some flaw))
-HasFlaw listed history place verdict combination _ = ⊥
+HasFirstFlaw listed history place verdict combination _ = ⊥
 
 -- each class before the place is ranked by an event or was issued
 abbrev pub AreEarlierAsked : List Event → ℕ → Type 0
@@ -97,7 +98,7 @@ abbrev pub eliminate_parts : Listed → List Event → ℕ → Side → Combinat
 eliminate_parts listed history place verdict combination =
     part broken.Class (IsPlace listed place)
     ∷ part broken.Ranked (IsUnranked history place)
-    ∷ record { holds = ProvesClass listed history place verdict combination; fails = HasFlaw listed history place verdict combination }
+    ∷ record { holds = ProvesClass listed history place verdict combination; fails = HasFirstFlaw listed history place verdict combination }
     ∷ []
 
 abbrev pub issue_parts : Listed → List Event → ℕ → List ℤ → List ℤ → List Part

@@ -2,6 +2,7 @@
 use Rattle.std.specs.Prelude.{◌≡◌, ℕ, ◌+◌, ◌*◌, ◌<◌, ◌≤◌, min, max, Bool, true, false, ◌||◌, ◌==◌, nat_lt, nat_le, if◌then◌else◌, IsTrue, IsFalse, List, [], ◌∷◌, length, map, count_by, slice_get, slice_set, Some}
 use Rattle.std.specs.Option.{option_map_or}
 use Rattle.std.specs.List.{flat_map}
+use Rattle.criteria_model.specs.declared.limits.TheConstants.{MAX_CLASSES}
 use Rattle.farkas_check.specs.declared.cites.Cite.{Cite}
 use Rattle.pair_enumeration.specs.Listed.{Listed, IsListed}
 use Rattle.answer_rows.specs.Room.{AnswersWithRoom, room_of}
@@ -124,7 +125,7 @@ AreSettled classes count = (k : ℕ) (mark : Mark) → k < count → slice_get c
 
 -- a table, and the counts that are kept beside it
 pub record IsTable (table : Table) (room ranked open_count settled : ℕ) : Type 0 where
-  pub few : length table.classes ≤ 16384
+  pub few : length table.classes ≤ MAX_CLASSES
   pub room_for_all : length table.classes ≤ room
   pub asked_count : count_by (λ mark. mark.issued) table.classes ≡ length table.questions
   pub ranked_count : count_by is_ranked_mark table.classes ≡ ranked

@@ -7,9 +7,10 @@ ghost use Rattle.survey_core.specs.declared.marks.Ending.TheVariants.{Open as St
 ghost use Rattle.survey_core.specs.Histories.{item_at};
 ghost use Rattle.survey_core.specs.Marked.{unmarked, is_ranking, is_elimination, is_settled, is_open, is_ranked_mark, is_open_mark, with_ranking, with_issued, with_ending, left_ranking, left_ending, left_mark, left_question, AreSettled};
 
+use criteria_model::MAX_CLASSES;
 use std::alloc::{AllocError as NoMemory, Global};
 
-/// How an event ranks a class, and on how many answers that rests.
+/// How an event ranks a class, and how many answers it needs.
 #[derive(Clone, Copy)]
 pub(crate) enum Ranking {
     Unranked,
@@ -133,9 +134,9 @@ impl std::marker::Model for Marks {
 }
 
 impl Marks {
-    /// Of so many classes, of which none is ranked or issued, with memory for as many questions.
+    /// Marks of a number of classes, none of them ranked or issued, with memory for as many questions.
     pub fn new(alloc: Global, classes: usize) -> Result<Marks, NoMemory>
-        requires { classes ≤ 16384 }
+        requires { classes ≤ MAX_CLASSES }
         ensures { IfOk result (λ marks. marks ≡ record { classes = replicate classes unmarked; questions = [] }) }
     {
         let unmarked = Mark {
@@ -264,7 +265,7 @@ impl Marks {
     }
 }
 
-/// How many classes in front are each ranked or issued, where the first so many are.
+/// How many classes in front are each ranked or issued, where those before `from` are.
 fn settled_from(classes: &[Mark], from: usize) -> usize
     requires within { from ≤ length classes.now }
     requires front { AreSettled classes.now from }
@@ -282,7 +283,7 @@ fn settled_from(classes: &[Mark], from: usize) -> usize
 
 /// How many classes are ranked.
 fn count_ranked(classes: &[Mark]) -> u32
-    requires { length classes.now ≤ 16384 }
+    requires { length classes.now ≤ MAX_CLASSES }
     ensures { result ≡ count_by is_ranked_mark classes.now }
 {
     classes
@@ -293,7 +294,7 @@ fn count_ranked(classes: &[Mark]) -> u32
 
 /// How many questions are open.
 fn count_open(questions: &[Question]) -> u32
-    requires { length questions.now ≤ 16384 }
+    requires { length questions.now ≤ MAX_CLASSES }
     ensures { result ≡ count_by is_open_mark questions.now }
 {
     questions

@@ -1,4 +1,4 @@
-ghost use Rattle.std.specs.Prelude.{◌≡◌, ◌↔◌, ℕ, ◌-◌, ◌^◌, ◌<◌, ◌≤◌, [], ◌∷◌, ◌++◌, Some, length, slice_get, IsTrue, All, IsSomeAnd, IfOk, IsSome, IfSome, MatchResult, MatchOption, unsigned_abs};
+ghost use Rattle.std.specs.Prelude.{◌≡◌, ◌↔◌, ℕ, ◌-◌, ◌<◌, ◌≤◌, [], ◌∷◌, ◌++◌, Some, length, slice_get, IsTrue, All, IsSomeAnd, IfOk, IsSome, IfSome, MatchResult, MatchOption, unsigned_abs};
 ghost use Rattle.criteria_model.specs.Worth.{increments, IsValueVector};
 ghost use Rattle.criteria_model.specs.declared.pairs.Answer.{Answer};
 ghost use Rattle.farkas_check.specs.Flaws.{IsFirstFlaw};
@@ -19,7 +19,7 @@ use crate::limits::{MAX_EVENTS, MAX_OPEN_QUESTIONS, spent};
 use crate::marks::{Ending, Marks, Ranking};
 use crate::questions::QuestionState;
 use answer_rows::Answers;
-use criteria_model::{Answer, Model, Pair, Side, Vector};
+use criteria_model::{Answer, CERTIFICATE_BOUND, Model, Pair, Side, Vector};
 use farkas_check::{Cites, Combination, Flaw};
 use pair_enumeration::Classes;
 use std::alloc::{AllocError as NoMemory, Global};
@@ -117,7 +117,7 @@ impl Core {
         combination: &Combination,
     ) -> Result<(), Broken>
         requires len { length combination.now.increments ≡ increments self.now.listed.criteria.levels }
-        requires scale { unsigned_abs combination.now.scale < 2 ^ 96 }
+        requires scale { unsigned_abs combination.now.scale < CERTIFICATE_BOUND }
         ensures { IsVerdictOn (eliminate_parts self.now.listed self.now.history place verdict combination.now) result }
     {
         if !self.has_class(place) {
@@ -136,7 +136,7 @@ impl Core {
     fn flaw(&self, place: u32, verdict: Side, combination: &Combination) -> Option<Flaw>
         requires place { IsPlace self.now.listed place }
         requires len { length combination.now.increments ≡ increments self.now.listed.criteria.levels }
-        requires scale { unsigned_abs combination.now.scale < 2 ^ 96 }
+        requires scale { unsigned_abs combination.now.scale < CERTIFICATE_BOUND }
         ensures { IsSomeAnd (class_at self.now.listed.classes place)
             (λ pair. IsFirstFlaw self.now.listed.criteria.levels (committed self.now.listed.classes self.now.history) combination.now pair verdict result) }
     {
@@ -268,7 +268,7 @@ impl Core {
     {
         let model = self.classes.model();
         let pair = self.classes.class(place);
-        meets(&model, &self.answers, point) && ranks(&model, point, &pair, side)
+        meets(&model, &self.answers, point) && model.ranking(point, &pair) == side
     }
 
     /// Whether the question may be closed.
@@ -354,7 +354,7 @@ impl Core {
         self.classes.model()
     }
 
-    /// The answers that stand, in order.
+    /// The standing answers, in order.
     pub fn answers(&self) -> &Answers
         ensures value { result.now.answers ≡ committed self.now.listed.classes self.now.history }
         ensures fit { All (λ answer. IsFit self.now.listed.criteria.levels answer.pair) result.now.answers }
@@ -422,21 +422,6 @@ impl Core {
         ensures { result ≡ withdrawals_of self.now.history }
     {
         self.withdrawals
-    }
-}
-
-/// Whether the vector ranks the pair so.
-fn ranks(model: &Model, vector: &Vector, pair: &Pair, side: Side) -> bool
-    requires vector { IsValueVector model.now.levels vector.now }
-    requires fits { IsFit model.now.levels pair.now }
-    ensures { IsTrue result ↔ Ranks model.now.levels vector.now pair.now side }
-{
-    let left = model.value(vector, &pair.left);
-    let right = model.value(vector, &pair.right);
-    match side {
-        Side::Left => left > right,
-        Side::Right => left < right,
-        Side::Equal => left == right,
     }
 }
 

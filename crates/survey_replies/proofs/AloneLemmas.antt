@@ -5,7 +5,7 @@ use mathlib.Core.List.{IsPrefix}
 use Rattle.pair_enumeration.specs.Listed.{Listed}
 use Rattle.survey_core.specs.declared.events.Event.{Event}
 use Rattle.survey_core.proofs.ListSteps.{All-Each}
-use Rattle.survey_replies.specs.Calls.{unseen, HasEliminateOf, Conversation, times}
+use Rattle.survey_replies.specs.Calls.{unseen, HasEliminateOf, Conversation, occurrences}
 use Rattle.survey_replies.specs.JournalLaws.{DeskRun, WorkerRun, MakesJournal}
 use Rattle.survey_replies.proofs.CallLemmas.{prefix_get}
 use Rattle.survey_replies.specs.PlainLaws.{IsAlone, OneDeskIsPlain}
@@ -17,8 +17,8 @@ one_desk_alone : (listed : Listed) (journal : List Event) (run : DeskRun) (worke
 one_desk_alone listed journal run workers makes prefix place event at none =
     let whole : slice_get journal place ≡ Some event = prefix_get run.seen.journal journal place event prefix at in
     let others : List ℕ = flat_map (λ run. run.own) workers in
-    let once : times place ((run.seen.own ++ []) ++ others) ≡ 1 = makes.once place (place_within journal place event whole) in
-    let gone : times place others ≡ 0 =
+    let once : occurrences place ((run.seen.own ++ []) ++ others) ≡ 1 = makes.once place (place_within journal place event whole) in
+    let gone : occurrences place others ≡ 0 =
     workers_none journal place event workers (All-Each (λ run. All (HasEliminateOf run.worker journal) run.own) workers makes.eliminations) whole none in
     omega (arith, once, gone, times_both place (run.seen.own ++ []) others, times_both place run.seen.own [])
 

@@ -20,9 +20,9 @@ use Rattle.survey_replies.specs.Outcomes.{Outcome}
 use Rattle.survey_replies.specs.Interview.{interview}
 use Rattle.survey_replies.specs.ReplyLaw.{IsReplyTo}
 use Rattle.survey_replies.specs.Certificates.{Carries}
-use Rattle.survey_replies.specs.Appended.{Appends, AreRankedByEvents, recorded}
+use Rattle.survey_replies.specs.Records.{Records, AreRankedByEvents, recorded}
 use Rattle.survey_replies.specs.Outcomes.{Exchange}
-use Rattle.survey_replies.specs.Calls.{read_by, end_of, places_of, IsReplyIn, Seen, IsEliminateOf, HasEliminateOf, MayEliminateFor, IsEliminateFor, HasEliminateFor, IsCall, Watches, Conversation, reply_places, times}
+use Rattle.survey_replies.specs.Calls.{read_by, end_of, places_of, IsReplyIn, Seen, IsEliminateOf, HasEliminateOf, MayEliminateFor, IsEliminateFor, HasEliminateFor, IsCall, Watches, Conversation, reply_places, occurrences}
 use Rattle.survey_replies.specs.Outcomes.{at_of}
 use Rattle.survey_replies.specs.CallLaws.{ReplyStays, ConversationsJoin, RepliesStand, NoPlaceFalls, IsNoEliminate, OwnAreOfReplies}
 use Rattle.survey_replies.proofs.InterviewLemmas.{count_by-append}
@@ -67,8 +67,8 @@ reply_stays_lem listed desk journal longer request reply prefix replied =
       carried = subst (λ (l : List Event). Carries listed (interview listed l) reply) read replied.carried;
       ranked = subst (λ (l : List Event). AreRankedByEvents listed l reply) read replied.ranked;
       appended =
-          subst (λ (l : List Event). Appends desk l request reply (slice_range longer (at_of reply) (end_of longer reply))) read
-          (subst (λ (l : List Event). Appends desk (read_by journal reply) request reply l) events replied.appended);
+          subst (λ (l : List Event). Records desk l request reply (slice_range longer (at_of reply) (end_of longer reply))) read
+          (subst (λ (l : List Event). Records desk (read_by journal reply) request reply l) events replied.appended);
     }
 
 -- ---- joining
@@ -143,12 +143,12 @@ no_place_falls_lem listed desk before after (exchange ∷ exchanges) (middle, tu
     (no_place_falls_lem listed desk middle after exchanges rest)
 
 -- ---- own places
-pub none_there : (place : ℕ) (places : List ℕ) → Each (λ other. other ≡ place → ⊥) places → times place places ≡ 0
+pub none_there : (place : ℕ) (places : List ℕ) → Each (λ other. other ≡ place → ⊥) places → occurrences place places ≡ 0
 none_there place [] each = refl
 none_there place (other ∷ places) each =
-    let ih : times place places ≡ 0 = none_there place places each.1 in
-    let go : (b : Bool) → (other == place) ≡ b → cond b 1 0 + times place places ≡ 0 =
-    λ b. elim b as (λ b. (other == place) ≡ b → cond b 1 0 + times place places ≡ 0) [
+    let ih : occurrences place places ≡ 0 = none_there place places each.1 in
+    let go : (b : Bool) → (other == place) ≡ b → cond b 1 0 + occurrences place places ≡ 0 =
+    λ b. elim b as (λ b. (other == place) ≡ b → cond b 1 0 + occurrences place places ≡ 0) [
       | true ↦ λ yes. absurd (each.0 (eqb-true other place yes))
       | false ↦ λ no. omega arith
     ]
@@ -207,11 +207,11 @@ eliminate_longer journal longer asks place (more, same) has =
     (is_eliminate_more (issued journal) (issued more) asks found.0 found.2))
 
 pub own_are_of_replies_lem : OwnAreOfReplies
-own_are_of_replies_lem listed desk before after [] journal place event watches prefix at none = omega (arith, ap (times place) watches.own)
+own_are_of_replies_lem listed desk before after [] journal place event watches prefix at none = omega (arith, ap (occurrences place) watches.own)
 own_are_of_replies_lem listed desk before after (exchange ∷ exchanges) journal place event (middle, turns, rest) prefix at none =
     let longer : IsPrefix middle.journal journal =
     prefix_trans middle.journal after.journal journal (conversation_longer listed desk middle after exchanges rest) prefix in
-    let ih : times place after.own ≡ times place middle.own + times place (reply_places journal exchanges) =
+    let ih : occurrences place after.own ≡ occurrences place middle.own + occurrences place (reply_places journal exchanges) =
     own_are_of_replies_lem listed desk middle after exchanges journal place event rest prefix at none in
     let mine : List ℕ = places_of middle.journal exchange.reply in
     let places : places_of journal exchange.reply ≡ mine = places_same middle.journal journal exchange.reply longer turns.replied.within in
@@ -220,15 +220,15 @@ own_are_of_replies_lem listed desk before after (exchange ∷ exchanges) journal
     (λ other h same. not_eliminate journal 0 place event at none
     (subst (λ k. HasEliminateOf 0 journal k) same (has_longer middle.journal journal 0 other longer (eliminate_of middle.journal exchange.request other h.2)))) turns.eliminated
     (All-Each (λ other. (length before.journal ≤ other) × (other < at_of exchange.reply) × HasEliminateFor middle.journal exchange.request other) turns.eliminated turns.eliminations) in
-    let gone : times place turns.eliminated ≡ 0 = none_there place turns.eliminated apart in
-    let own : times place middle.own ≡ times place (before.own ++ turns.eliminated ++ mine) = ap (times place) turns.own in
-    let parts : times place (before.own ++ turns.eliminated ++ mine) ≡ times place (before.own ++ turns.eliminated) + times place mine =
+    let gone : occurrences place turns.eliminated ≡ 0 = none_there place turns.eliminated apart in
+    let own : occurrences place middle.own ≡ occurrences place (before.own ++ turns.eliminated ++ mine) = ap (occurrences place) turns.own in
+    let parts : occurrences place (before.own ++ turns.eliminated ++ mine) ≡ occurrences place (before.own ++ turns.eliminated) + occurrences place mine =
     count_by-append (λ other. other == place) (before.own ++ turns.eliminated) mine in
-    let parts' : times place (before.own ++ turns.eliminated) ≡ times place before.own + times place turns.eliminated =
+    let parts' : occurrences place (before.own ++ turns.eliminated) ≡ occurrences place before.own + occurrences place turns.eliminated =
     count_by-append (λ other. other == place) before.own turns.eliminated in
-    let whole : times place (reply_places journal (exchange ∷ exchanges)) ≡ times place (places_of journal exchange.reply) + times place (reply_places journal exchanges) =
+    let whole : occurrences place (reply_places journal (exchange ∷ exchanges)) ≡ occurrences place (places_of journal exchange.reply) + occurrences place (reply_places journal exchanges) =
     count_by-append (λ other. other == place) (places_of journal exchange.reply) (reply_places journal exchanges) in
-    let same : times place (places_of journal exchange.reply) ≡ times place mine = ap (times place) places in
+    let same : occurrences place (places_of journal exchange.reply) ≡ occurrences place mine = ap (occurrences place) places in
     omega arith
 
 -- ---- in a loop

@@ -12,7 +12,7 @@ use Rattle.pair_enumeration.specs.Listed.{Listed}
 use Rattle.survey_core.specs.declared.events.Event.{Event}
 use Rattle.survey_core.specs.declared.events.Event.TheVariants.{Eliminate, Issue, Commit, Close, Withdraw}
 use Rattle.survey_core.specs.Histories.{issued, place_of, is_eliminated}
-use Rattle.survey_core.proofs.ListSteps.{Each, Each-append, Each-map, All-Each, slice_get_inside, slice_get-take, some_and}
+use Rattle.survey_core.proofs.ListSteps.{Each, Each-range, Each-append, Each-map, All-Each, slice_get_inside, slice_get-take, some_and}
 use Rattle.survey_replies.specs.Requests.{Request}
 use Rattle.survey_replies.specs.Requests as request
 use Rattle.survey_replies.specs.declared.replies.NextReply.TheVariants.{Question}
@@ -20,8 +20,8 @@ use Rattle.survey_replies.specs.declared.replies.AnswerReply.TheVariants.{Accept
 use Rattle.survey_replies.specs.declared.replies.WithdrawReply.TheVariants.{Withdrawn}
 use Rattle.survey_replies.specs.Outcomes.{Outcome}
 use Rattle.survey_replies.specs.Outcomes as outcome
-use Rattle.survey_replies.specs.Appended.{Appends, missing_elimination, recorded}
-use Rattle.survey_replies.specs.Calls.{read_by, end_of, places_of, Seen, unseen, IsEliminateOf, HasEliminateOf, HasEliminateFor, IsCall, Conversation, reply_places, times}
+use Rattle.survey_replies.specs.Records.{Records, missing_elimination, recorded}
+use Rattle.survey_replies.specs.Calls.{read_by, end_of, places_of, Seen, unseen, IsEliminateOf, HasEliminateOf, HasEliminateFor, IsCall, Conversation, reply_places, occurrences}
 use Rattle.survey_replies.specs.Outcomes.{at_of}
 use Rattle.survey_replies.specs.CallLaws.{IsNoEliminate, OwnEliminatesAreDesks}
 use Rattle.survey_replies.specs.JournalLaws.{DeskRun, WorkerRun, EachHasOneReply, EachEliminateHasItsWorker}
@@ -39,7 +39,7 @@ unfolding IsDesks
 missing_desks true place verdict combination = tt
 missing_desks false place verdict combination = ((λ worker same. sym same), tt)
 
-each_desks : (desk : ℕ) (history : List Event) (asked : Request) (reply : Outcome) (events : List Event) → Appends desk history asked reply events → Each IsDesks events
+each_desks : (desk : ℕ) (history : List Event) (asked : Request) (reply : Outcome) (events : List Event) → Records desk history asked reply events → Each IsDesks events
 unfolding IsDesks
 each_desks desk history request.next (outcome.next (Question at number place pair)) events (plus, minus, same) =
     subst (Each IsDesks) (sym same) ((λ worker none. absurd none), tt)
@@ -56,14 +56,6 @@ each_desks desk history request.withdraw (outcome.withdraw (Withdrawn at answer 
 each_desks desk history _ _ events same = subst (Each IsDesks) (sym same) tt
 
 -- ---- lists
-pub each_in_range : (from n : ℕ) → Each (λ q. (from ≤ q) × (q < from + n)) (range_with_len from n)
-each_in_range from zero = tt
-each_in_range from (suc n) = (
-  (omega arith, omega arith),
-  Each-map (λ q. (from + 1 ≤ q) × (q < from + 1 + n)) (λ q. (from ≤ q) × (q < from + suc n)) (λ q h. (omega (arith, h.0), omega (arith, h.1)))
-      (range_with_len (from + 1) n) (each_in_range (from + 1) n),
-)
-
 slice_get-drop : (n k j : ℕ) (events : List Event) → j ≡ n + k → slice_get (drop n events) k ≡ slice_get events j
 slice_get-drop zero k j events same = ap (λ i. slice_get events i) (omega arith)
 slice_get-drop (suc n) k j [] same = refl
@@ -71,18 +63,18 @@ slice_get-drop (suc n) k zero (event ∷ events) same = absurd (omega arith)
 slice_get-drop (suc n) k (suc j) (event ∷ events) same = slice_get-drop n k j events (omega arith)
 
 -- what each place of a list has, a place has that stands in it
-pub some_there : (P : ℕ → Type 0) (place : ℕ) (places : List ℕ) → Each P places → 0 < times place places → P place
+pub some_there : (P : ℕ → Type 0) (place : ℕ) (places : List ℕ) → Each P places → 0 < occurrences place places → P place
 some_there P place [] each some = absurd (omega arith)
 some_there P place (other ∷ places) each some =
-    let sum : times place (other ∷ places) ≡ cond (other == place) 1 0 + times place places = sum_by-cons (λ x. cond (x == place) 1 0) other places in
-    let go : (b : Bool) → (other == place) ≡ b → 0 < cond b 1 0 + times place places → P place =
-    λ b. elim b as (λ b. (other == place) ≡ b → 0 < cond b 1 0 + times place places → P place) [
+    let sum : occurrences place (other ∷ places) ≡ cond (other == place) 1 0 + occurrences place places = sum_by-cons (λ x. cond (x == place) 1 0) other places in
+    let go : (b : Bool) → (other == place) ≡ b → 0 < cond b 1 0 + occurrences place places → P place =
+    λ b. elim b as (λ b. (other == place) ≡ b → 0 < cond b 1 0 + occurrences place places → P place) [
       | true ↦ λ yes more. subst P (eqb-true other place yes) each.0
       | false ↦ λ no more. some_there P place places each.1 (omega arith)
     ]
     in go (other == place) refl (omega arith)
 
-pub times_both : (place : ℕ) (xs ys : List ℕ) → times place (xs ++ ys) ≡ times place xs + times place ys
+pub times_both : (place : ℕ) (xs ys : List ℕ) → occurrences place (xs ++ ys) ≡ occurrences place xs + occurrences place ys
 times_both place xs ys = count_by-append (λ other. other == place) xs ys
 
 -- ---- Eliminates by sessions
@@ -110,13 +102,13 @@ has_shorter journal longer worker place prefix within has =
     subst (λ (o : Option Event). IsSomeAnd o (IsEliminateOf worker)) there has
 
 turn_desks : (listed : Listed) (desk : ℕ) (before after : Seen) (asked : Request) (reply : Outcome) (journal : List Event) (place worker : ℕ)
-    → IsCall listed desk before after asked reply → IsPrefix after.journal journal → HasEliminateOf worker journal place → times place before.own < times place after.own → worker ≡ 0
+    → IsCall listed desk before after asked reply → IsPrefix after.journal journal → HasEliminateOf worker journal place → occurrences place before.own < occurrences place after.own → worker ≡ 0
 unfolding IsDesks
 turn_desks listed desk before after asked reply journal place worker turns prefix has more =
     let last : List ℕ = places_of after.journal reply in
-    let sum : times place after.own ≡ times place before.own + times place turns.eliminated + times place last =
-    ap (times place) turns.own ∙ times_both place (before.own ++ turns.eliminated) last ∙ ap (λ n. n + times place last) (times_both place before.own turns.eliminated) in
-    elim (cases_lt 0 (times place turns.eliminated)) [
+    let sum : occurrences place after.own ≡ occurrences place before.own + occurrences place turns.eliminated + occurrences place last =
+    ap (occurrences place) turns.own ∙ times_both place (before.own ++ turns.eliminated) last ∙ ap (λ n. n + occurrences place last) (times_both place before.own turns.eliminated) in
+    elim (cases_lt 0 (occurrences place turns.eliminated)) [
       | inl early ↦
           same_worker journal place worker 0 has
           (has_longer after.journal journal 0 place prefix (eliminate_of after.journal asked place
@@ -125,7 +117,7 @@ turn_desks listed desk before after asked reply journal place worker turns prefi
       | inr none ↦
           (let count : ℕ = recorded (read_by after.journal reply) reply in
           let within : (at_of reply ≤ place) × (place < at_of reply + count) =
-          some_there (λ q. (at_of reply ≤ q) × (q < at_of reply + count)) place last (each_in_range (at_of reply) count) (omega arith) in
+          some_there (λ q. (at_of reply ≤ q) × (q < at_of reply + count)) place last (Each-range (at_of reply) count) (omega arith) in
           let found : (event : Event) × (slice_get after.journal place ≡ Some event) × IsEliminateOf worker event =
           some_and (slice_get after.journal place) (IsEliminateOf worker)
           (has_shorter after.journal journal worker place prefix (omega (arith, within.1, turns.replied.within)) has) in
@@ -142,9 +134,9 @@ turn_desks listed desk before after asked reply journal place worker turns prefi
 
 pub own_eliminates_are_desks_lem : OwnEliminatesAreDesks
 own_eliminates_are_desks_lem listed desk before after [] journal place worker watches prefix has more =
-    absurd (omega (arith, ap (times place) watches.own))
+    absurd (omega (arith, ap (occurrences place) watches.own))
 own_eliminates_are_desks_lem listed desk before after (exchange ∷ exchanges) journal place worker (middle, turns, rest) prefix has more =
-    elim (cases_lt (times place middle.own) (times place after.own)) [
+    elim (cases_lt (occurrences place middle.own) (occurrences place after.own)) [
       | inl later ↦ own_eliminates_are_desks_lem listed desk middle after exchanges journal place worker rest prefix has later
       | inr none ↦
           turn_desks listed desk before middle exchange.request exchange.reply journal place worker turns
@@ -155,12 +147,12 @@ own_eliminates_are_desks_lem listed desk before after (exchange ∷ exchanges) j
 desks_reply : (listed : Listed) (journal : List Event) (place : ℕ) (event : Event) (desks : List DeskRun)
     → Each (λ run. Conversation listed run.desk unseen run.seen run.exchanges × IsPrefix run.seen.journal journal) desks
     → slice_get journal place ≡ Some event → IsNoEliminate event
-    → times place (flat_map (λ run. run.seen.own) desks) ≡ times place (flat_map (λ run. reply_places journal run.exchanges) desks)
+    → occurrences place (flat_map (λ run. run.seen.own) desks) ≡ occurrences place (flat_map (λ run. reply_places journal run.exchanges) desks)
 desks_reply listed journal place event [] each at none = refl
 desks_reply listed journal place event (run ∷ desks) each at none =
-    let first : times place run.seen.own ≡ times place (unseen.own) + times place (reply_places journal run.exchanges) =
+    let first : occurrences place run.seen.own ≡ occurrences place (unseen.own) + occurrences place (reply_places journal run.exchanges) =
     own_are_of_replies_lem listed run.desk unseen run.seen run.exchanges journal place event each.0.0 each.0.1 at none in
-    let later : times place (flat_map (λ run. run.seen.own) desks) ≡ times place (flat_map (λ run. reply_places journal run.exchanges) desks) =
+    let later : occurrences place (flat_map (λ run. run.seen.own) desks) ≡ occurrences place (flat_map (λ run. reply_places journal run.exchanges) desks) =
     desks_reply listed journal place event desks each.1 at none in
     times_both place run.seen.own (flat_map (λ run. run.seen.own) desks)
     ∙ omega arith
@@ -168,15 +160,15 @@ desks_reply listed journal place event (run ∷ desks) each at none =
 
 pub workers_none : (journal : List Event) (place : ℕ) (event : Event) (workers : List WorkerRun)
     → Each (λ run. All (HasEliminateOf run.worker journal) run.own) workers → slice_get journal place ≡ Some event → IsNoEliminate event
-    → times place (flat_map (λ run. run.own) workers) ≡ 0
+    → occurrences place (flat_map (λ run. run.own) workers) ≡ 0
 workers_none journal place event [] each at none = refl
 workers_none journal place event (run ∷ workers) each at none =
-    let first : times place run.own ≡ 0 =
+    let first : occurrences place run.own ≡ 0 =
     none_there place run.own
     (Each-map (HasEliminateOf run.worker journal) (λ other. other ≡ place → ⊥)
     (λ other h same. not_eliminate journal run.worker place event at none (subst (HasEliminateOf run.worker journal) same h)) run.own
     (All-Each (HasEliminateOf run.worker journal) run.own each.0)) in
-    let later : times place (flat_map (λ run. run.own) workers) ≡ 0 = workers_none journal place event workers each.1 at none in
+    let later : occurrences place (flat_map (λ run. run.own) workers) ≡ 0 = workers_none journal place event workers each.1 at none in
     times_both place run.own (flat_map (λ run. run.own) workers) ∙ omega arith
 
 pub place_within : (journal : List Event) (place : ℕ) (event : Event) → slice_get journal place ≡ Some event → place < length journal
@@ -188,35 +180,35 @@ pub each_has_one_reply_lem : EachHasOneReply
 each_has_one_reply_lem listed journal desks workers place event makes at none =
     let own : List ℕ = flat_map (λ run. run.seen.own) desks in
     let others : List ℕ = flat_map (λ run. run.own) workers in
-    let sum : times place (own ++ others) ≡ times place own + times place others = times_both place own others in
-    let once : times place (own ++ others) ≡ 1 = makes.once place (place_within journal place event at) in
-    let gone : times place others ≡ 0 =
+    let sum : occurrences place (own ++ others) ≡ occurrences place own + occurrences place others = times_both place own others in
+    let once : occurrences place (own ++ others) ≡ 1 = makes.once place (place_within journal place event at) in
+    let gone : occurrences place others ≡ 0 =
     workers_none journal place event workers (All-Each (λ run. All (HasEliminateOf run.worker journal) run.own) workers makes.eliminations) at none in
-    let replies : times place own ≡ times place (flat_map (λ run. reply_places journal run.exchanges) desks) =
+    let replies : occurrences place own ≡ occurrences place (flat_map (λ run. reply_places journal run.exchanges) desks) =
     desks_reply listed journal place event desks
     (All-Each (λ run. Conversation listed run.desk unseen run.seen run.exchanges × IsPrefix run.seen.journal journal) desks makes.conversations) at none in
     omega arith
 
 desk_made : (listed : Listed) (journal : List Event) (place worker : ℕ) (desks : List DeskRun)
     → Each (λ run. Conversation listed run.desk unseen run.seen run.exchanges × IsPrefix run.seen.journal journal) desks
-    → HasEliminateOf worker journal place → 0 < times place (flat_map (λ run. run.seen.own) desks) → worker ≡ 0
+    → HasEliminateOf worker journal place → 0 < occurrences place (flat_map (λ run. run.seen.own) desks) → worker ≡ 0
 desk_made listed journal place worker [] each has some = absurd (omega arith)
 desk_made listed journal place worker (run ∷ desks) each has some =
-    let sum : times place (run.seen.own ++ flat_map (λ run. run.seen.own) desks) ≡ times place run.seen.own + times place (flat_map (λ run. run.seen.own) desks) =
+    let sum : occurrences place (run.seen.own ++ flat_map (λ run. run.seen.own) desks) ≡ occurrences place run.seen.own + occurrences place (flat_map (λ run. run.seen.own) desks) =
     times_both place run.seen.own (flat_map (λ run. run.seen.own) desks) in
-    elim (cases_lt 0 (times place run.seen.own)) [
+    elim (cases_lt 0 (occurrences place run.seen.own)) [
       | inl here ↦ own_eliminates_are_desks_lem listed run.desk unseen run.seen run.exchanges journal place worker each.0.0 each.0.1 has here
       | inr none ↦ desk_made listed journal place worker desks each.1 has (omega arith)
     ]
 
 worker_made : (journal : List Event) (place worker : ℕ) (workers : List WorkerRun)
     → Each (λ run. All (HasEliminateOf run.worker journal) run.own) workers
-    → HasEliminateOf worker journal place → 0 < times place (flat_map (λ run. run.own) workers) → Any (λ run. run.worker ≡ worker) workers
+    → HasEliminateOf worker journal place → 0 < occurrences place (flat_map (λ run. run.own) workers) → Any (λ run. run.worker ≡ worker) workers
 worker_made journal place worker [] each has some = absurd (omega arith)
 worker_made journal place worker (run ∷ workers) each has some =
-    let sum : times place (run.own ++ flat_map (λ run. run.own) workers) ≡ times place run.own + times place (flat_map (λ run. run.own) workers) =
+    let sum : occurrences place (run.own ++ flat_map (λ run. run.own) workers) ≡ occurrences place run.own + occurrences place (flat_map (λ run. run.own) workers) =
     times_both place run.own (flat_map (λ run. run.own) workers) in
-    elim (cases_lt 0 (times place run.own)) [
+    elim (cases_lt 0 (occurrences place run.own)) [
       | inl here ↦
           (let mine : HasEliminateOf run.worker journal place =
           some_there (HasEliminateOf run.worker journal) place run.own (All-Each (HasEliminateOf run.worker journal) run.own each.0) here in
@@ -230,10 +222,10 @@ pub each_eliminate_has_its_worker_lem : EachEliminateHasItsWorker
 each_eliminate_has_its_worker_lem listed journal desks workers place worker class verdict combination makes at =
     let own : List ℕ = flat_map (λ run. run.seen.own) desks in
     let others : List ℕ = flat_map (λ run. run.own) workers in
-    let sum : times place (own ++ others) ≡ times place own + times place others = times_both place own others in
-    let once : times place (own ++ others) ≡ 1 = makes.once place (place_within journal place (Eliminate worker class verdict combination) at) in
+    let sum : occurrences place (own ++ others) ≡ occurrences place own + occurrences place others = times_both place own others in
+    let once : occurrences place (own ++ others) ≡ 1 = makes.once place (place_within journal place (Eliminate worker class verdict combination) at) in
     let has : HasEliminateOf worker journal place = subst (λ (o : Option Event). IsSomeAnd o (IsEliminateOf worker)) (sym at) refl in
-    elim (cases_lt 0 (times place own)) [
+    elim (cases_lt 0 (occurrences place own)) [
       | inl desk ↦
           inl (desk_made listed journal place worker desks
           (All-Each (λ run. Conversation listed run.desk unseen run.seen run.exchanges × IsPrefix run.seen.journal journal) desks makes.conversations) has desk)

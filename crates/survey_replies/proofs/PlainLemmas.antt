@@ -12,7 +12,7 @@ use Rattle.survey_core.specs.declared.events.Event.{Event}
 use Rattle.survey_core.specs.declared.events.Event.TheVariants.{Eliminate, Issue, Commit, Close, Withdraw}
 use Rattle.survey_core.specs.Histories.{issued, place_of, is_eliminated}
 use Rattle.survey_core.specs.Legal.{MayFollow, IsLegal}
-use Rattle.survey_core.proofs.ListSteps.{Each, Each-append, Each-map, slice_get-take, some_and, take_whole}
+use Rattle.survey_core.proofs.ListSteps.{Each, Each-range, Each-append, Each-map, slice_get-take, some_and, take_whole}
 use Rattle.survey_core.proofs.SoundLemmas.{IsSound, sound_history}
 use Rattle.survey_core.proofs.RankingLemmas.{answers_are_satisfiable_lem}
 use Rattle.survey_replies.specs.Requests.{Request}
@@ -27,25 +27,25 @@ use Rattle.survey_replies.specs.Outcomes.{Outcome}
 use Rattle.survey_replies.specs.Outcomes as outcome
 use Rattle.survey_replies.specs.Interview.{Interview, interview}
 use Rattle.survey_replies.specs.ReplyLaw.{IsWithdrawReply, IsReplyTo}
-use Rattle.survey_replies.specs.Appended.{Appends, missing_elimination, recorded}
+use Rattle.survey_replies.specs.Records.{Records, missing_elimination, recorded}
 use Rattle.survey_replies.specs.Gists.{Gist, gist_of}
 use Rattle.survey_replies.specs.Gists as gist
 use Rattle.survey_replies.specs.Outcomes.{Exchange}
-use Rattle.survey_replies.specs.Calls.{read_by, end_of, places_of, Seen, unseen, IsEliminateOf, IsCall, Conversation, reply_places, times}
+use Rattle.survey_replies.specs.Calls.{read_by, end_of, places_of, Seen, unseen, IsEliminateOf, IsCall, Conversation, reply_places, occurrences}
 use Rattle.survey_replies.specs.Outcomes.{at_of}
 use Rattle.survey_replies.specs.CallLaws.{IsNoEliminate}
 use Rattle.survey_replies.specs.PlainRun.{PlainSurvey, plain_start, plain_interview, plain_after, IsPlainRun}
 use Rattle.survey_replies.specs.PlainLaws.{IsAlone, AloneIsPlain, AloneIsThePlain}
 use Rattle.survey_replies.proofs.ReplyLemmas.{one_reply_lem}
 use Rattle.survey_replies.proofs.CallLemmas.{prefix_length, prefix_get, conversation_longer, each_later, places_same, none_there, own_are_of_replies_lem}
-use Rattle.survey_replies.proofs.JournalLemmas.{each_in_range, some_there, times_both, place_within}
+use Rattle.survey_replies.proofs.JournalLemmas.{some_there, times_both, place_within}
 use Rattle.survey_replies.proofs.PlainSteps.{plain_of, same_interview, push_eliminate, push_issue, push_commit, push_close, push_withdraw}
 
 -- ---- one reply
 with_nothing : (history events : List Event) → events ≡ [] → plain_of (history ++ events) ≡ plain_of history
 with_nothing history events none = ap (λ (l : List Event). plain_of (history ++ l)) none ∙ ap plain_of (append-nil history)
 
-next_turn : (desk : ℕ) (history : List Event) (reply : NextReply) (events : List Event) → Appends desk history request.next (outcome.next reply) events
+next_turn : (desk : ℕ) (history : List Event) (reply : NextReply) (events : List Event) → Records desk history request.next (outcome.next reply) events
     → plain_of (history ++ events) ≡ plain_after (plain_of history) request.next (gist_of (outcome.next reply))
 next_turn desk history (Question at number place pair) events (plus, minus, same) =
     ap (λ (l : List Event). plain_of (history ++ l)) same ∙ push_issue history desk place plus minus
@@ -63,7 +63,7 @@ closed_turn desk question place history false verdict combination =
     ∙ ap close (push_eliminate history 0 place verdict combination)
 
 answer_turn : (desk : ℕ) (history : List Event) (question : ℕ) (side : Side) (reply : AnswerReply) (events : List Event)
-    → Appends desk history (request.answer question side) (outcome.answer reply) events
+    → Records desk history (request.answer question side) (outcome.answer reply) events
     → plain_of (history ++ events) ≡ plain_after (plain_of history) (request.answer question side) (gist_of (outcome.answer reply))
 answer_turn desk history question side (Accepted at replied) events (plus, minus, point, same) =
     ap (λ (l : List Event). plain_of (history ++ l)) same ∙ push_commit history desk question side plus minus point
@@ -75,14 +75,14 @@ answer_turn desk history question side (Implied at replied verdict combination) 
 answer_turn desk history question side _ events none = with_nothing history events none
 
 withdraw_turn : (listed : Listed) (desk : ℕ) (history : List Event) (reply : WithdrawReply) (events : List Event) → IsSound listed history
-    → IsWithdrawReply listed (interview listed history) reply → Appends desk history request.withdraw (outcome.withdraw reply) events
+    → IsWithdrawReply listed (interview listed history) reply → Records desk history request.withdraw (outcome.withdraw reply) events
     → plain_of (history ++ events) ≡ plain_after (plain_of history) request.withdraw (gist_of (outcome.withdraw reply))
 withdraw_turn listed desk history (Withdrawn at answer question) events sound by_law same =
     ap (λ (l : List Event). plain_of (history ++ l)) same ∙ push_withdraw listed history desk answer sound (omega (arith, by_law.0, by_law.2)) by_law.2
 withdraw_turn listed desk history _ events sound by_law none = with_nothing history events none
 
 turn_plain : (listed : Listed) (desk : ℕ) (history : List Event) (asked : Request) (reply : Outcome) (events : List Event) → IsSound listed history
-    → IsReplyTo listed (interview listed history) asked reply → Appends desk history asked reply events
+    → IsReplyTo listed (interview listed history) asked reply → Records desk history asked reply events
     → plain_of (history ++ events) ≡ plain_after (plain_of history) asked (gist_of reply)
 turn_plain listed desk history request.next (outcome.next reply) events sound by_law appends = next_turn desk history reply events appends
 turn_plain listed desk history (request.answer question side) (outcome.answer reply) events sound by_law appends =
@@ -139,14 +139,14 @@ places_later journal least (exchange ∷ exchanges) each =
     let reply : Outcome = exchange.reply in
     let count : ℕ = recorded (read_by journal reply) reply in
     Each-append (λ place. least ≤ place) (places_of journal reply) (reply_places journal exchanges)
-    (Each-map (λ q. (at_of reply ≤ q) × (q < at_of reply + count)) (λ q. least ≤ q) (λ q h. omega (arith, h.0, each.0)) (places_of journal reply) (each_in_range (at_of reply) count))
+    (Each-map (λ q. (at_of reply ≤ q) × (q < at_of reply + count)) (λ q. least ≤ q) (λ q h. omega (arith, h.0, each.0)) (places_of journal reply) (Each-range (at_of reply) count))
     (places_later journal least exchanges each.1)
 
 -- each event from the end of a journal on, that is no Eliminate, stands in a reply's last turn
 abbrev IsCovered : ℕ → List Event → List Exchange → Type 0
 IsCovered from journal exchanges =
     (place : ℕ) (event : Event) → from ≤ place → slice_get journal place ≡ Some event → IsNoEliminate event
-    → 0 < times place (reply_places journal exchanges)
+    → 0 < occurrences place (reply_places journal exchanges)
 
 -- up to the reply's last turn only eliminations came
 quiet : (listed : Listed) (desk : ℕ) (before middle after : Seen) (exchange : Exchange) (exchanges : List Exchange)
@@ -177,7 +177,7 @@ quiet listed desk before middle after exchange exchanges turns rest covered =
     elim (either event) [
       | inl is ↦ is
       | inr none ↦
-          (let some : 0 < times place (reply_places after.journal (exchange ∷ exchanges)) =
+          (let some : 0 < occurrences place (reply_places after.journal (exchange ∷ exchanges)) =
           covered place event (omega arith) (prefix_get middle.journal after.journal place event longer here) none in
           let high : at ≤ place = some_there (λ q. at ≤ q) place (reply_places after.journal (exchange ∷ exchanges)) later some in
           absurd (omega arith))
@@ -216,15 +216,15 @@ runs_plain listed desk before after (exchange ∷ exchanges) model legal (middle
     let count : ℕ = recorded (read_by middle.journal reply) reply in
     let covers : IsCovered (length middle.journal) after.journal exchanges =
     λ place event high at none.
-    (let some : 0 < times place (reply_places after.journal (exchange ∷ exchanges)) =
+    (let some : 0 < occurrences place (reply_places after.journal (exchange ∷ exchanges)) =
     covered place event (omega (arith, prefix_length before.journal middle.journal turns.longer)) at none in
-    let sum : times place (reply_places after.journal (exchange ∷ exchanges)) ≡ times place (places_of after.journal reply) + times place (reply_places after.journal exchanges) =
+    let sum : occurrences place (reply_places after.journal (exchange ∷ exchanges)) ≡ occurrences place (places_of after.journal reply) + occurrences place (reply_places after.journal exchanges) =
     times_both place (places_of after.journal reply) (reply_places after.journal exchanges) in
     let apart : Each (λ q. q ≡ place → ⊥) (places_of middle.journal reply) =
     Each-map (λ q. (at_of reply ≤ q) × (q < at_of reply + count)) (λ q. q ≡ place → ⊥) (λ q h same. omega (arith, h.1, turns.ends))
-    (places_of middle.journal reply) (each_in_range (at_of reply) count) in
-    let gone : times place (places_of after.journal reply) ≡ 0 =
-    ap (times place) (places_same middle.journal after.journal reply longer turns.replied.within) ∙ none_there place (places_of middle.journal reply) apart in
+    (places_of middle.journal reply) (Each-range (at_of reply) count) in
+    let gone : occurrences place (places_of after.journal reply) ≡ 0 =
+    ap (occurrences place) (places_same middle.journal after.journal reply longer turns.replied.within) ∙ none_there place (places_of middle.journal reply) apart in
     omega arith) in (
       subst (λ (now : Interview). IsSatisfiable listed.criteria.levels now.answers) rests (answers_are_satisfiable_lem listed read model legal_read),
       subst (λ (now : Interview). IsReplyTo listed now exchange.request reply) rests turns.replied.by_law,

@@ -4,12 +4,10 @@ use Rattle.std.proofs.lemmas.Option.{same_Some}
 use Rattle.criteria_model.specs.declared.pairs.Pair.{Pair}
 use Rattle.criteria_model.specs.declared.pairs.Answer.{Answer}
 use Rattle.criteria_model.specs.declared.pairs.Side.{Side}
-use Rattle.criteria_model.specs.Answers.{Ranks, IsSatisfiable, IsRanked, IsOpen}
-use Rattle.std.proofs.lemmas.Int.{ints}
-use Rattle.criteria_model.specs.declared.pairs.Side.TheVariants.{Left, Right, Equal}
+use Rattle.criteria_model.specs.Answers.{IsSatisfiable, IsRanked, IsOpen}
 use Rattle.pair_enumeration.specs.Listed.{Listed}
 use Rattle.survey_core.specs.Histories.{item_at, class_at, class_of}
-use Rattle.survey_core.proofs.RankingLemmas.{answers_are_satisfiable_lem}
+use Rattle.survey_core.proofs.RankingLemmas.{ranks_once, answers_are_satisfiable_lem}
 use Rattle.survey_replies.specs.Requests as request
 use Rattle.survey_replies.specs.declared.replies.NextReply.{NextReply}
 use Rattle.survey_replies.specs.declared.replies.NextReply.TheVariants.{Question, Full, Waiting, Complete}
@@ -26,18 +24,6 @@ use Rattle.survey_replies.specs.ReplyLaw.{IsFirst, IsOpenClass, IsUnaskedOpenCla
 use Rattle.survey_replies.specs.Gists.{gist_of}
 use Rattle.survey_replies.specs.Gists as gist
 use Rattle.survey_replies.specs.Laws.{OneReply, OneReplyOnHistory}
-
--- no values rank a pair in two ways
-ranks_once : (levels : List ℕ) (values : List ℤ) (pair : Pair) (one other : Side) → Ranks levels values pair one → Ranks levels values pair other → one ≡ other
-ranks_once levels values pair Left Left h g = refl
-ranks_once levels values pair Left Right h g = absurd (omega (arith, ints, h, g))
-ranks_once levels values pair Left Equal h g = absurd (omega (arith, ints, h, g))
-ranks_once levels values pair Right Left h g = absurd (omega (arith, ints, h, g))
-ranks_once levels values pair Right Right h g = refl
-ranks_once levels values pair Right Equal h g = absurd (omega (arith, ints, h, g))
-ranks_once levels values pair Equal Left h g = absurd (omega (arith, ints, h, g))
-ranks_once levels values pair Equal Right h g = absurd (omega (arith, ints, h, g))
-ranks_once levels values pair Equal Equal h g = refl
 
 pub one_first : (Is : ℕ → Type 0) (m n : ℕ) → IsFirst Is m → IsFirst Is n → m ≡ n
 one_first Is m n one other =

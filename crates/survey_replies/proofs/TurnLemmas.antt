@@ -28,14 +28,14 @@ use Rattle.survey_replies.specs.declared.replies.WithdrawReply.{WithdrawReply}
 use Rattle.survey_replies.specs.Interview.{interview}
 use Rattle.survey_replies.specs.ReplyLaw.{IsReplyTo}
 use Rattle.survey_replies.specs.Certificates.{Carries}
-use Rattle.survey_replies.specs.Appended.{Appends, AreRankedByEvents, is_question_eliminated, missing_elimination, recorded}
+use Rattle.survey_replies.specs.Records.{Records, AreRankedByEvents, is_question_eliminated, missing_elimination, recorded}
 use Rattle.survey_replies.specs.Calls.{read_by, end_of, places_of, Seen, HasEliminateOf, IsCall, Prepares, RepliesInTurn, TakesTurn, IsEliminateOf, IsEliminateFor, HasEliminateFor}
 use Rattle.survey_replies.specs.Outcomes.{at_of}
 use Rattle.survey_replies.specs.CallLaws.{CallIsMade, EliminationPrepares, NothingPrepares, PreparationsJoin}
 use Rattle.survey_replies.proofs.CallLemmas.{prefix_length, prefix_trans, is_eliminate_more, eliminate_longer}
 
 -- ---- how many events a reply appends
-next_count : (desk : ℕ) (history : List Event) (reply : NextReply) (events : List Event) → Appends desk history request.next (outcome.next reply) events
+next_count : (desk : ℕ) (history : List Event) (reply : NextReply) (events : List Event) → Records desk history request.next (outcome.next reply) events
     → length events ≡ recorded history (outcome.next reply)
 next_count desk history (Question at number place pair) events (plus, minus, same) = ap (λ (l : List Event). length l) same
 next_count desk history _ events none = ap (λ (l : List Event). length l) none
@@ -46,7 +46,7 @@ missing_count desk question place true verdict combination = refl
 missing_count desk question place false verdict combination = refl
 
 answer_count : (desk : ℕ) (history : List Event) (question : ℕ) (side : Side) (reply : AnswerReply) (events : List Event)
-    → Appends desk history (request.answer question side) (outcome.answer reply) events
+    → Records desk history (request.answer question side) (outcome.answer reply) events
     → ((replied : ℕ) (at : ℕ) (verdict : Side) (combination : Combination) → reply ≡ Implied at replied verdict combination → replied ≡ question)
     → length events ≡ recorded history (outcome.answer reply)
 answer_count desk history question side (Accepted at replied) events (plus, minus, point, same) names = ap (λ (l : List Event). length l) same
@@ -67,13 +67,13 @@ answer_names : (listed : Listed) (history : List Event) (question : ℕ) (side :
 answer_names listed history question side reply by_law replied at verdict combination is =
     (subst (λ (r : AnswerReply). IsReplyTo listed (interview listed history) (request.answer question side) (outcome.answer r)) is by_law).0
 
-withdraw_count : (desk : ℕ) (history : List Event) (reply : WithdrawReply) (events : List Event) → Appends desk history request.withdraw (outcome.withdraw reply) events
+withdraw_count : (desk : ℕ) (history : List Event) (reply : WithdrawReply) (events : List Event) → Records desk history request.withdraw (outcome.withdraw reply) events
     → length events ≡ recorded history (outcome.withdraw reply)
 withdraw_count desk history (Withdrawn at answer question) events same = ap (λ (l : List Event). length l) same
 withdraw_count desk history _ events none = ap (λ (l : List Event). length l) none
 
 recorded_count : (listed : Listed) (desk : ℕ) (history : List Event) (asked : Request) (reply : Outcome) (events : List Event)
-    → IsReplyTo listed (interview listed history) asked reply → Appends desk history asked reply events → length events ≡ recorded history reply
+    → IsReplyTo listed (interview listed history) asked reply → Records desk history asked reply events → length events ≡ recorded history reply
 recorded_count listed desk history request.next (outcome.next reply) events by_law appends = next_count desk history reply events appends
 recorded_count listed desk history (request.answer question side) (outcome.answer reply) events by_law appends =
     answer_count desk history question side reply events appends (answer_names listed history question side reply by_law)
@@ -108,8 +108,8 @@ call_is_made_lem listed desk before middle after found asked reply prepares turn
         carried = subst (λ (l : List Event). Carries listed (interview listed l) reply) (sym read) replied.carried;
         ranked = subst (λ (l : List Event). AreRankedByEvents listed l reply) (sym read) replied.ranked;
         appended =
-            subst (λ (l : List Event). Appends desk l asked reply (slice_range journal (at_of reply) (end_of journal reply))) (sym read)
-            (subst (λ (l : List Event). Appends desk found asked reply l) (sym events) replied.appended);
+            subst (λ (l : List Event). Records desk l asked reply (slice_range journal (at_of reply) (end_of journal reply))) (sym read)
+            (subst (λ (l : List Event). Records desk found asked reply l) (sym events) replied.appended);
       };
       longer = prefix_trans before.journal middle.journal journal prepares.longer longer;
       later = omega (arith, replied.at, prefix_length before.journal middle.journal prepares.longer, prefix_length middle.journal found turn.later);

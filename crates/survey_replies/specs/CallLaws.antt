@@ -6,7 +6,7 @@ use Rattle.survey_core.specs.declared.events.Event.{Event}
 use Rattle.survey_core.specs.Histories.{issued}
 use Rattle.survey_replies.specs.Requests.{Request}
 use Rattle.survey_replies.specs.Outcomes.{Outcome, Exchange, at_of}
-use Rattle.survey_replies.specs.Calls.{end_of, IsReplyIn, Seen, IsEliminateOf, HasEliminateOf, IsEliminateFor, IsCall, Prepares, TakesTurn, Conversation, reply_places, times, RepliesInTurn}
+use Rattle.survey_replies.specs.Calls.{end_of, IsReplyIn, Seen, IsEliminateOf, HasEliminateOf, IsEliminateFor, IsCall, Prepares, TakesTurn, Conversation, reply_places, occurrences, RepliesInTurn}
 
 -- a reply is the right one in every longer journal
 abbrev pub ReplyStays : Type 0
@@ -69,11 +69,11 @@ OwnAreOfReplies =
     (listed : Listed) (desk : ℕ) (before after : Seen) (exchanges : List Exchange) (journal : List Event) (place : ℕ) (event : Event)
     → Conversation listed desk before after exchanges → IsPrefix after.journal journal
     → slice_get journal place ≡ Some event → IsNoEliminate event
-    → times place after.own ≡ times place before.own + times place (reply_places journal exchanges)
+    → occurrences place after.own ≡ occurrences place before.own + occurrences place (reply_places journal exchanges)
 
 -- an Eliminate that a conversation appended names worker 0
 abbrev pub OwnEliminatesAreDesks : Type 0
 OwnEliminatesAreDesks =
     (listed : Listed) (desk : ℕ) (before after : Seen) (exchanges : List Exchange) (journal : List Event) (place worker : ℕ)
     → Conversation listed desk before after exchanges → IsPrefix after.journal journal
-    → HasEliminateOf worker journal place → times place before.own < times place after.own → worker ≡ 0
+    → HasEliminateOf worker journal place → occurrences place before.own < occurrences place after.own → worker ≡ 0

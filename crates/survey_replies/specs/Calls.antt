@@ -13,7 +13,7 @@ use Rattle.survey_replies.specs.Outcomes.{Outcome, Exchange, at_of}
 use Rattle.survey_replies.specs.Interview.{interview}
 use Rattle.survey_replies.specs.ReplyLaw.{IsReplyTo}
 use Rattle.survey_replies.specs.Certificates.{Carries}
-use Rattle.survey_replies.specs.Appended.{Appends, AreRankedByEvents, recorded}
+use Rattle.survey_replies.specs.Records.{Records, AreRankedByEvents, recorded}
 
 -- the journal on which the reply was made
 abbrev pub read_by : List Event → Outcome → List Event
@@ -33,7 +33,7 @@ pub record IsReplyIn (listed : Listed) (desk : ℕ) (journal : List Event) (requ
   pub by_law : IsReplyTo listed (interview listed (read_by journal reply)) request reply
   pub carried : Carries listed (interview listed (read_by journal reply)) reply
   pub ranked : AreRankedByEvents listed (read_by journal reply) reply
-  pub appended : Appends desk (read_by journal reply) request reply (slice_range journal (at_of reply) (end_of journal reply))
+  pub appended : Records desk (read_by journal reply) request reply (slice_range journal (at_of reply) (end_of journal reply))
 
 -- the journal as a respondent has seen it, and the places that are its own
 pub record Seen : Type 0 where
@@ -95,7 +95,7 @@ pub record RepliesInTurn (listed : Listed) (desk : ℕ) (found after : List Even
   pub carried : Carries listed (interview listed found) reply
   pub ranked : AreRankedByEvents listed found reply
   pub events : List Event
-  pub appended : Appends desk found request reply events
+  pub appended : Records desk found request reply events
   pub journal : after ≡ found ++ events
 
 -- one turn of a respondent: the journal that it found begins with the one seen, and what it appended is own
@@ -120,5 +120,5 @@ abbrev pub reply_places : List Event → List Exchange → List ℕ
 reply_places journal exchanges = flat_map (λ exchange. places_of journal exchange.reply) exchanges
 
 -- how often the place stands in the list
-abbrev pub times : ℕ → List ℕ → ℕ
-times place places = count_by (λ other. other == place) places
+abbrev pub occurrences : ℕ → List ℕ → ℕ
+occurrences place places = count_by (λ other. other == place) places

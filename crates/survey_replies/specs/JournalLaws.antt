@@ -8,7 +8,7 @@ use Rattle.pair_enumeration.specs.Listed.{Listed}
 use Rattle.survey_core.specs.declared.events.Event.{Event}
 use Rattle.survey_core.specs.declared.events.Event.TheVariants.{Eliminate}
 use Rattle.survey_replies.specs.Outcomes.{Exchange}
-use Rattle.survey_replies.specs.Calls.{Seen, unseen, HasEliminateOf, Conversation, reply_places, times}
+use Rattle.survey_replies.specs.Calls.{Seen, unseen, HasEliminateOf, Conversation, reply_places, occurrences}
 use Rattle.survey_replies.specs.CallLaws.{IsNoEliminate}
 
 -- what a desk's sessions brought back, one after the other
@@ -27,14 +27,14 @@ pub record MakesJournal (listed : Listed) (journal : List Event) (desks : List D
   pub conversations : All (λ run. Conversation listed run.desk unseen run.seen run.exchanges × IsPrefix run.seen.journal journal) desks
   pub eliminations : All (λ run. All (HasEliminateOf run.worker journal) run.own) workers
   pub once : (place : ℕ) → place < length journal
-      → times place (flat_map (λ run. run.seen.own) desks ++ flat_map (λ run. run.own) workers) ≡ 1
+      → occurrences place (flat_map (λ run. run.seen.own) desks ++ flat_map (λ run. run.own) workers) ≡ 1
 
 -- each event that is no Eliminate stands in the last turn of exactly one reply
 abbrev pub EachHasOneReply : Type 0
 EachHasOneReply =
     (listed : Listed) (journal : List Event) (desks : List DeskRun) (workers : List WorkerRun) (place : ℕ) (event : Event)
     → MakesJournal listed journal desks workers → slice_get journal place ≡ Some event → IsNoEliminate event
-    → times place (flat_map (λ run. reply_places journal run.exchanges) desks) ≡ 1
+    → occurrences place (flat_map (λ run. reply_places journal run.exchanges) desks) ≡ 1
 
 -- each Eliminate is by a session or by one of the eliminators
 abbrev pub EachEliminateHasItsWorker : Type 0

@@ -3,7 +3,7 @@ pub mod Outcomes
 pub mod Interview
 pub mod ReplyLaw
 pub mod Certificates
-pub mod Appended
+pub mod Records
 pub mod Gists
 pub mod Calls
 pub mod PlainRun

@@ -5,14 +5,14 @@ use Rattle.survey_core.specs.declared.events.Event.{Event}
 use Rattle.survey_core.specs.Legal.{IsLegal}
 use Rattle.survey_replies.specs.Gists.{gist_of}
 use Rattle.survey_replies.specs.Outcomes.{Exchange}
-use Rattle.survey_replies.specs.Calls.{Seen, unseen, Conversation, times}
+use Rattle.survey_replies.specs.Calls.{Seen, unseen, Conversation, occurrences}
 use Rattle.survey_replies.specs.CallLaws.{IsNoEliminate}
 use Rattle.survey_replies.specs.JournalLaws.{DeskRun, WorkerRun, MakesJournal}
 use Rattle.survey_replies.specs.PlainRun.{plain_start, IsPlainRun}
 
 -- each event seen that is no Eliminate is the respondent's own
 abbrev pub IsAlone : Seen → Type 0
-IsAlone seen = (place : ℕ) (event : Event) → slice_get seen.journal place ≡ Some event → IsNoEliminate event → 0 < times place seen.own
+IsAlone seen = (place : ℕ) (event : Event) → slice_get seen.journal place ≡ Some event → IsNoEliminate event → 0 < occurrences place seen.own
 
 -- a conversation that is alone on a legal journal replies as the plain run does
 abbrev pub AloneIsPlain : Type 0

@@ -1,8 +1,9 @@
-ghost use Rattle.std.specs.Prelude.{◌≡◌, ◌^◌, ◌<◌, length, unsigned_abs, IsTrue};
+ghost use Rattle.std.specs.Prelude.{◌≡◌, ◌<◌, length, unsigned_abs, IsTrue};
 ghost use Rattle.criteria_model.specs.Worth.{increments, IsValueVector};
 ghost use Rattle.survey_core.specs.Legal.{IsDesk, IsEvent};
 
 use super::*;
+use crate::limits::{MAX_DESKS, MAX_WORKERS};
 use criteria_model::Tuple;
 use farkas_check::Cite;
 use std::process::Abort;
@@ -130,7 +131,7 @@ fn is_event(model: &Model, event: &Event) -> bool
             worker,
             combination,
             ..
-        } => *worker <= 16 && is_combination(model, combination),
+        } => *worker <= MAX_WORKERS && is_combination(model, combination),
         Event::Issue {
             desk,
             plus,
@@ -157,7 +158,7 @@ fn is_event(model: &Model, event: &Event) -> bool
 fn is_desk(desk: u8) -> bool
     ensures { IsTrue result → IsDesk desk }
 {
-    desk >= 1 && desk <= 4
+    desk >= 1 && desk <= MAX_DESKS
 }
 
 fn is_values(model: &Model, vector: &Vector) -> bool
@@ -169,10 +170,10 @@ fn is_values(model: &Model, vector: &Vector) -> bool
 
 fn is_combination(model: &Model, combination: &Combination) -> bool
     ensures len { IsTrue result → length combination.now.increments ≡ increments model.now.levels }
-    ensures scale { IsTrue result → unsigned_abs combination.now.scale < 2 ^ 96 }
+    ensures scale { IsTrue result → unsigned_abs combination.now.scale < CERTIFICATE_BOUND }
 {
     combination.increments.len() == usize::from(model.increments())
-        && combination.scale.unsigned_abs() < 1 << 96
+        && combination.scale.unsigned_abs() < CERTIFICATE_BOUND
 }
 
 /// Puts the event at the end where it may follow.

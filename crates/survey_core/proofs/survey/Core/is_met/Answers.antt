@@ -1,4 +1,4 @@
-use Rattle.std.proofs.Common.{◌≡◌, ◌↔◌, true, false, IsTrue, ◌∷◌, [], ◌++◌, map, All, IsSomeAnd, sym, subst, ◌∙◌}
+use Rattle.std.proofs.Common.{rules, ◌≡◌, ◌↔◌, true, false, IsTrue, ◌∷◌, [], ◌++◌, map, All, IsSomeAnd, sym, subst, ◌∙◌}
 use Rattle.std.specs.Vec.{vec_capacity}
 use Rattle.survey_core.specs.Recorded.{Recorded}
 use Rattle.criteria_model.specs.Criteria.{Criteria}
@@ -20,9 +20,10 @@ returns-then-meets c =
     (λ pair. MeetsAll c.self.inside.classes.criteria.levels
     (committed c.self.inside.classes.classes (map (λ event. event.value) c.self.inside.events.items) ++ record { pair = pair; side = c.args.side } ∷ []) c.args.point.now) =
     (meets_at _ _ _ _ _ _ c.self.invariant c.model-model.result c.args.place c.class-pair.result c.args.side c.args.point.now c.model-model.ensures.value c.class-pair.ensures.value) in
-    subst (λ (r : Recorded). IsTrue c.ranks.result ↔ IsSomeAnd (class_at r.listed.classes c.args.place)
+    let ranks : IsTrue c.eq.result ↔ Ranks c.model-model.result.levels c.args.point.now c.class-pair.result c.args.side = search rules in
+    subst (λ (r : Recorded). IsTrue c.eq.result ↔ IsSomeAnd (class_at r.listed.classes c.args.place)
     (λ pair. MeetsAll r.listed.criteria.levels (committed r.listed.classes r.history ++ record { pair = pair; side = c.args.side } ∷ []) c.args.point.now)) c.self.view_is
-    ((λ h. both.0 (c.meets.ensures.0 c.if-meets.true, c.ranks.ensures.0 h)), (λ h. c.ranks.ensures.1 (both.1 h).1))
+    ((λ h. both.0 (c.meets.ensures.0 c.if-meets.true, ranks.0 h)), (λ h. ranks.1 (both.1 h).1))
 
 pub returns-else-meets : goal.returns-else-meets
 returns-else-meets c =

@@ -24,16 +24,16 @@ missing_elimination history place verdict combination =
     if is_eliminated history place then [] else Eliminate 0 place verdict combination ∷ []
 
 -- the events that the reply's last turn appends to the history
-abbrev pub Appends : ℕ → List Event → Request → Outcome → List Event → Type 0
-Appends desk history request.next (outcome.next (Question at number place pair)) events =
+abbrev pub Records : ℕ → List Event → Request → Outcome → List Event → Type 0
+Records desk history request.next (outcome.next (Question at number place pair)) events =
     (plus : List ℤ) × (minus : List ℤ) × (events ≡ Issue desk place plus minus ∷ [])
-Appends desk history (request.answer question side) (outcome.answer (Accepted at replied)) events =
+Records desk history (request.answer question side) (outcome.answer (Accepted at replied)) events =
     (plus : List ℤ) × (minus : List ℤ) × (point : List ℤ) × (events ≡ Commit desk question side plus minus point ∷ [])
-Appends desk history (request.answer question side) (outcome.answer (Implied at replied verdict combination)) events =
+Records desk history (request.answer question side) (outcome.answer (Implied at replied verdict combination)) events =
     IsSomeAnd (place_of (issued history) question)
     (λ place. events ≡ missing_elimination history place verdict combination ++ Close desk question ∷ [])
-Appends desk history request.withdraw (outcome.withdraw (Withdrawn at answer question)) events = events ≡ Withdraw desk answer ∷ []
-Appends desk history _ _ events = events ≡ []
+Records desk history request.withdraw (outcome.withdraw (Withdrawn at answer question)) events = events ≡ Withdraw desk answer ∷ []
+Records desk history _ _ events = events ≡ []
 
 -- whether the class of a question is eliminated
 abbrev pub is_question_eliminated : List Event → ℕ → Bool
