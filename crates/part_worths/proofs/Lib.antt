@@ -1,0 +1,3 @@
+mod Ranks
+mod ShareLaws
+mod ValueLaws

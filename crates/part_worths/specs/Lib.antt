@@ -1,0 +1,3 @@
+pub mod Apportionment
+pub mod Values
+pub mod Laws
