@@ -113,13 +113,14 @@ fn a_text_goes_out_as_far_as_there_is_room(rt: HostRuntime) -> Result<(), Fail> 
     Ok(())
 }
 
-/// An end of the system that is interrupted so many times before it gives or takes a byte.
+/// An end of the system whose calls fail so many times before it gives or takes a byte.
 #[derive(Drop)]
-struct Interrupted {
+struct Failing {
     times: u32,
+    kind: ErrorKind,
 }
 
-impl Interrupted {
+impl Failing {
     fn call(&mut self) -> std::io::Result<usize>
         ensures { IfOk result (λ n. n ≡ 1) }
     {
@@ -127,11 +128,11 @@ impl Interrupted {
             return Ok(1);
         }
         self.times -= 1;
-        Err(Error::new(ErrorKind::Interrupted, "interrupted"))
+        Err(Error::new(self.kind, "no byte"))
     }
 }
 
-impl Read for Interrupted {
+impl Read for Failing {
     fn read(&mut self, buf: &mut [u8]) -> std::io::Result<usize> {
         if buf.is_empty() {
             return Ok(0);
@@ -140,7 +141,7 @@ impl Read for Interrupted {
     }
 }
 
-impl Write for Interrupted {
+impl Write for Failing {
     fn write(&mut self, buf: &[u8]) -> std::io::Result<usize> {
         if buf.is_empty() {
             return Ok(0);
@@ -154,15 +155,29 @@ impl Write for Interrupted {
 }
 
 #[test]
-fn an_interrupted_call_is_made_again_a_thousand_times(rt: HostRuntime) {
-    for (times, is_done) in [(0, true), (1_000, true), (1_001, false)] {
+fn an_interrupted_call_is_made_again_a_thousand_times_and_no_other(rt: HostRuntime) {
+    let table = [
+        (ErrorKind::Interrupted, 0, Ok(1)),
+        (ErrorKind::Interrupted, 1_000, Ok(1)),
+        (ErrorKind::Interrupted, 1_001, Err(Failed)),
+        (ErrorKind::BrokenPipe, 1, Err(Failed)),
+        (ErrorKind::WouldBlock, 1, Err(Failed)),
+    ];
+    for (kind, times, wanted) in table {
         let mut buf = [0u8; 4];
-        let read = read_some(&mut Interrupted { times }, &mut buf);
-        assert!(rt; read.is_ok() == is_done);
-        let written = write_some(&mut Interrupted { times }, &buf);
-        assert!(rt; written.is_ok() == is_done);
+        let read = read_some(&mut Failing { times, kind }, &mut buf);
+        assert!(rt; read == wanted);
+        let written = write_some(&mut Failing { times, kind }, &buf);
+        assert!(rt; written == wanted);
     }
-    let written = write_some(&mut Interrupted { times: 0 }, &[]);
+    let never = ErrorKind::Other;
+    let written = write_some(
+        &mut Failing {
+            times: 0,
+            kind: never,
+        },
+        &[],
+    );
     assert!(rt; written == Err(Failed));
 }
 

@@ -215,6 +215,23 @@ fn line_is_too_long_from_byte_4097_on(rt: HostRuntime) -> Result<(), Fail> {
     expect_check(&rt, rt.alloc(), &long, 7, b"invalid 1 form\n")
 }
 
+#[test]
+fn long_line_is_refused_without_another_read(rt: HostRuntime) -> Result<(), Fail> {
+    let long = vec![in rt.alloc(); b'a'; 5_000]?;
+    let words = [format!(in rt.alloc(); "check")?];
+    // The call fails that would be the next one after byte 4,097.
+    for (piece, call) in [(4_097, 2), (5_000, 2), (7, 587), (1, 4_098)] {
+        let mut source = MemSource::new(rt.alloc(), long.as_slice(), piece, &[call])?;
+        let mut sink = MemSink::new(rt.alloc(), 64, &[])?;
+        assert_eq!(rt;
+            plain_command(rt.alloc(), &words, &mut source, &mut sink),
+            1
+        );
+        assert!(rt; sink.bytes() == b"invalid 1 form\n".as_slice());
+    }
+    Ok(())
+}
+
 /// A file of claims with the same answer so many times.
 fn claims_file(alloc: Global, answers: u32) -> Result<Vec<u8>, Fail> {
     let mut text = Vec::from_slice(alloc, b"paprika claims 1\nmodel 2,2 degree 2\n")?;
@@ -257,6 +274,15 @@ fn ends_fail_at_once(rt: HostRuntime) -> Result<(), Fail> {
     Ok(())
 }
 
+/// Expects that the words are those of no command.
+fn expect_usage(rt: &impl Abort, alloc: Global, words: &[String]) -> Result<(), Fail> {
+    let mut source = QuietSource::new(alloc, b"")?;
+    let mut sink = QuietSink::new(alloc, 64)?;
+    assert_eq!(rt; plain_command(alloc, words, &mut source, &mut sink), 2);
+    assert!(rt; sink.bytes() == b"usage: paprika check\n".as_slice());
+    Ok(())
+}
+
 #[test]
 fn other_words_are_usage(rt: HostRuntime) -> Result<(), Fail> {
     let words = [
@@ -264,13 +290,11 @@ fn other_words_are_usage(rt: HostRuntime) -> Result<(), Fail> {
         format!(in rt.alloc(); "check")?,
     ];
     for count in [0, 2] {
-        let mut source = QuietSource::new(rt.alloc(), b"")?;
-        let mut sink = QuietSink::new(rt.alloc(), 64)?;
-        assert_eq!(rt;
-            plain_command(rt.alloc(), &words[..count], &mut source, &mut sink),
-            2
-        );
-        assert!(rt; sink.bytes() == b"usage: paprika check\n".as_slice());
+        expect_usage(&rt, rt.alloc(), &words[..count])?;
+    }
+    for word in ["", "Check", "check ", "--help", "rank"] {
+        let words = [format!(in rt.alloc(); "{word}")?];
+        expect_usage(&rt, rt.alloc(), &words)?;
     }
     Ok(())
 }

@@ -39,7 +39,7 @@ pushed (z ∷ xs) x (b ∷ before) y after e =
       | inr within ↦ inr (within.0, rw same (ap (λ w. b ∷ w) within.1))
     ]
 
-more_claims : (criteria : Criteria) (claims : List Claim) (claim : Claim) → AreClaims criteria claims → IsRight criteria claims claim → AreClaims criteria (claims ++ claim ∷ [])
+pub more_claims : (criteria : Criteria) (claims : List Claim) (claim : Claim) → AreClaims criteria claims → IsRight criteria claims claim → AreClaims criteria (claims ++ claim ∷ [])
 more_claims criteria claims claim h right = record {
   model = h.model;
   each = λ before other after e. elim (pushed claims claim before other after e) [
@@ -48,7 +48,7 @@ more_claims criteria claims claim h right = record {
   ];
 }
 
-no_claims : (criteria : Criteria) → IsModel criteria → AreClaims criteria []
+pub no_claims : (criteria : Criteria) → IsModel criteria → AreClaims criteria []
 no_claims criteria m = record { model = m; each = λ before claim after e. absurd (none before claim after e) }
   where
     none : (before : List Claim) (claim : Claim) (after : List Claim) → [] ≡ before ++ claim ∷ after → ⊥

@@ -15,3 +15,5 @@ pub mod EventOnce
 pub mod StepLaws
 pub mod FailLaws
 pub mod OneVerdict
+pub mod FirstParts
+pub mod EachVerdict

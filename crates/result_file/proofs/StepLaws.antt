@@ -204,7 +204,7 @@ pub record HasLast (content : Content) : Type 0 where
   pub adds : AddsRight before line content
   pub lines : lines_of content ≡ lines_of before ++ line ∷ []
 
-lines_push : (kind : Kind) (criteria : Criteria) (body others : List (List ℕ)) (line : List ℕ) → body ≡ others ++ line ∷ []
+pub lines_push : (kind : Kind) (criteria : Criteria) (body others : List (List ℕ)) (line : List ℕ) → body ≡ others ++ line ∷ []
     → heading kind ∷ model_line criteria ∷ body ≡ (heading kind ∷ model_line criteria ∷ others) ++ line ∷ []
 lines_push kind criteria body others line e = ap (λ (rest : List (List ℕ)). heading kind ∷ model_line criteria ∷ rest) e
 

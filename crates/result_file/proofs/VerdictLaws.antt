@@ -99,7 +99,7 @@ ends_whole verdict bytes piece lines (ended content) whole says h = (
   h.1,
 )
 
-ends_checked : (verdict : Checked) (bytes piece : List ℕ) (lines : List (List ℕ)) (stage : Stage) (number : ℕ) → bytes ≡ unlines lines ++ piece → All HasNoLineEnd lines → HasNoLineEnd piece → length piece ≤ 4096 → Says lines stage → number ≡ length lines + 1 → EndsAs stage piece number verdict → IsChecked bytes verdict
+pub ends_checked : (verdict : Checked) (bytes piece : List ℕ) (lines : List (List ℕ)) (stage : Stage) (number : ℕ) → bytes ≡ unlines lines ++ piece → All HasNoLineEnd lines → HasNoLineEnd piece → length piece ≤ 4096 → Says lines stage → number ≡ length lines + 1 → EndsAs stage piece number verdict → IsChecked bytes verdict
 ends_checked Valid bytes piece lines stage number whole unbroken one short says count h = ends_whole Valid bytes piece lines stage whole says h
 ends_checked ValidComplete bytes piece lines stage number whole unbroken one short says count h = ends_whole ValidComplete bytes piece lines stage whole says h
 ends_checked (Invalid line part) bytes piece lines stage number whole unbroken one short says count h = record {

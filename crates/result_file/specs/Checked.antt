@@ -1,6 +1,6 @@
 -- Checked files: which bytes are valid, and what is wrong with the others. A file has a heading, a model, claims or
 -- events, and an end. It is told by what its lines are, whatever reads them.
-use Rattle.std.specs.Prelude.{◌≡◌, ◌≢◌, ◌⊎◌, ℕ, ◌+◌, ◌<◌, ◌≤◌, List, [], ◌∷◌, ◌++◌, length, All, None, Option, IfSome}
+use Rattle.std.specs.Prelude.{◌≡◌, ◌≢◌, ◌⊎◌, ℕ, ◌+◌, ◌<◌, ◌≤◌, List, [], ◌∷◌, ◌++◌, length, None, Option, IfSome}
 use Rattle.edges.specs.Line.{HasNoLineEnd, Splits, first_line, unlines}
 use Rattle.criteria_model.specs.Criteria.{Criteria}
 use Rattle.criteria_model.specs.Faults.{model_fault}

@@ -21,6 +21,10 @@ abbrev pub OneVerdict : Type 0
 OneVerdict =
     (text : List ℕ) (one other : Checked) → IsOnText one → IsOnText other → IsChecked text one → IsChecked text other → one ≡ other
 
+-- each text deserves such a verdict: there is none that deserves none
+abbrev pub EachHasVerdict : Type 0
+EachHasVerdict = (text : List ℕ) → ¬ ((verdict : Checked) → IsOnText verdict → ¬ IsChecked text verdict)
+
 -- a text is worth each verdict that it deserves
 abbrev pub CheckedIsWorth : Type 0
 CheckedIsWorth = (text : List ℕ) (verdict : Checked) → IsChecked text verdict → IsWorth text verdict

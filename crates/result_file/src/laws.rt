@@ -1,5 +1,5 @@
 //! Laws of checked files. Each function does nothing; its contract is the law.
-ghost use Rattle.result_file.specs.Laws.{CheckedIsWorth, OneContent, OneVerdict};
+ghost use Rattle.result_file.specs.Laws.{CheckedIsWorth, EachHasVerdict, OneContent, OneVerdict};
 
 /// A text is the file of one content at most.
 pub fn one_content()
@@ -9,6 +9,11 @@ pub fn one_content()
 /// A text deserves one verdict at most, a read fault and want of memory apart.
 pub fn one_verdict()
     ensures { OneVerdict }
+{}
+
+/// Each text deserves such a verdict: with the law above, exactly one.
+pub fn each_has_verdict()
+    ensures { EachHasVerdict }
 {}
 
 /// What a verdict promises of the text that deserves it: of a valid one, that each pair that it eliminates is ranked so;

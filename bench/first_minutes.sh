@@ -1,0 +1,40 @@
+#!/bin/sh
+# Runs the program on each example, and on words and ends that it refuses, and compares line and status.
+here=$(cd "$(dirname "$0")" && pwd) || exit 1
+cd "$here/.." || exit 1
+failed=0
+
+expect() { # the status and the text that are wanted, the input, and the words
+    wanted=$1 text=$2 input=$3
+    shift 3
+    out=$(./paprika "$@" <"$input")
+    status=$?
+    if [ "$status" != "$wanted" ] || [ "$out" != "$text" ]; then
+        echo "paprika $* < $input: status $status and '$out', not $wanted and '$text'"
+        failed=1
+    fi
+}
+
+usage='usage: paprika check'
+expect 0 'valid' examples/claims.txt check
+expect 0 'valid complete' examples/result.txt check
+expect 0 'valid' examples/withdrawn.txt check
+expect 1 'invalid 6 sum' examples/unproved.txt check
+expect 1 'invalid 4 class' examples/turned_class.txt check
+expect 1 'invalid 2 model' examples/too_many_increments.txt check
+expect 1 'unfinished 5' examples/unfinished.txt check
+expect 1 'unfinished 1' /dev/null check
+expect 2 "$usage" examples/claims.txt
+expect 2 "$usage" examples/claims.txt check check
+expect 2 "$usage" examples/claims.txt Check
+expect 2 "$usage" examples/claims.txt --help
+expect 2 "$usage" examples/claims.txt "$(printf '\377')"
+expect 2 "$usage" examples/claims.txt check "$(printf '\377')"
+expect 3 '' examples check # a folder can't be read
+if [ -w /dev/full ]; then
+    ./paprika check <examples/claims.txt >/dev/full
+    status=$?
+    if [ $status != 4 ]; then echo "paprika check > /dev/full: status $status, not 4" && failed=1; fi
+fi
+if [ $failed = 0 ]; then echo 'all as wanted'; fi
+exit $failed
