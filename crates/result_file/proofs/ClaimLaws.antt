@@ -16,14 +16,16 @@ use Rattle.farkas_check.specs.declared.flaws.Flaw.TheVariants as flaws
 use Rattle.farkas_check.specs.Flaws.{IsFirstFlaw}
 use Rattle.farkas_check.specs.Proof.{Proves}
 use Rattle.farkas_check.specs.Cited.{AreCites}
+use Rattle.survey_core.specs.declared.limits.TheConstants.{MAX_EVENTS}
 use Rattle.result_file.specs.declared.eliminations.Elimination.{Elimination}
 use Rattle.result_file.specs.declared.stops.Stop.{Stop}
 use Rattle.result_file.specs.declared.stops.Stop.TheVariants as stops
 use Rattle.result_file.specs.declared.verdicts.Part.{Part}
 use Rattle.result_file.specs.declared.verdicts.Part.TheVariants.{Form}
 use Rattle.result_file.specs.Claims.{Claim, answered, eliminated, answers_of, pair_of}
+use Rattle.survey_core.specs.declared.broken.Broken.TheVariants as broken
 use Rattle.result_file.specs.Parts.{part_of}
-use Rattle.result_file.specs.Texts.{most_lines, claim_line, end_line}
+use Rattle.result_file.specs.Texts.{claim_line, end_line}
 use Rattle.result_file.specs.Reading.{read_answer, read_elimination}
 use Rattle.result_file.specs.Eliminations.{Reads}
 use Rattle.result_file.specs.Checked.{Fails, begun}
@@ -210,7 +212,7 @@ keeps_elimination old new criteria claims e model count answers h = record {
 pub refuses : (kept : KeptClaims) (claim : Claim) (part : Part) → ((claims : List Claim) (other : Claim) → kept.count ≡ length claims → pair_of other ≡ pair_of claim → FailsAs kept.model claims other part) → (criteria : Criteria) (claims : List Claim) → KeepsClaims kept criteria claims → FailsAs criteria claims claim part
 refuses kept claim part fails criteria claims h = rw h.model at (fails claims claim h.count refl)
 
-pub accepts_answer : (old new : KeptClaims) (answer : Answer) → old.count < most_lines → IsClass old.model answer.pair → new.model ≡ old.model → new.count ≡ old.count + 1 → new.answers ≡ old.answers ++ answer ∷ [] → (criteria : Criteria) (claims : List Claim) → KeepsClaims old criteria claims → AcceptsClaim new criteria claims (answered answer)
+pub accepts_answer : (old new : KeptClaims) (answer : Answer) → old.count < MAX_EVENTS → IsClass old.model answer.pair → new.model ≡ old.model → new.count ≡ old.count + 1 → new.answers ≡ old.answers ++ answer ∷ [] → (criteria : Criteria) (claims : List Claim) → KeepsClaims old criteria claims → AcceptsClaim new criteria claims (answered answer)
 accepts_answer old new answer room class model count answers criteria claims h = record {
   room = omega (arith, room, h.count);
   class = rw h.model at class;
@@ -218,7 +220,7 @@ accepts_answer old new answer room class model count answers criteria claims h =
   kept = keeps_answer old new criteria claims answer model count answers h;
 }
 
-pub accepts_elimination : (old new : KeptClaims) (e : Elimination) → old.count < most_lines → IsClass old.model e.pair → Proves old.model.levels old.answers e.combination e.pair e.verdict → new.model ≡ old.model → new.count ≡ old.count + 1 → new.answers ≡ old.answers → (criteria : Criteria) (claims : List Claim) → KeepsClaims old criteria claims → AcceptsClaim new criteria claims (eliminated e)
+pub accepts_elimination : (old new : KeptClaims) (e : Elimination) → old.count < MAX_EVENTS → IsClass old.model e.pair → Proves old.model.levels old.answers e.combination e.pair e.verdict → new.model ≡ old.model → new.count ≡ old.count + 1 → new.answers ≡ old.answers → (criteria : Criteria) (claims : List Claim) → KeepsClaims old criteria claims → AcceptsClaim new criteria claims (eliminated e)
 accepts_elimination old new e room class proof model count answers criteria claims h = record {
   room = omega (arith, room, h.count);
   class = rw h.model at class;
@@ -226,7 +228,7 @@ accepts_elimination old new e room class proof model count answers criteria clai
   kept = keeps_elimination old new criteria claims e model count answers h;
 }
 
-fails_by : (flaw : Flaw) (criteria : Criteria) (claims : List Claim) (e : Elimination) → length claims < most_lines → IsClass criteria e.pair → IsFirstFlaw criteria.levels (answers_of claims) e.combination e.pair e.verdict (Some flaw) → FailsAs criteria claims (eliminated e) (part_of flaw)
+fails_by : (flaw : Flaw) (criteria : Criteria) (claims : List Claim) (e : Elimination) → length claims < MAX_EVENTS → IsClass criteria e.pair → IsFirstFlaw criteria.levels (answers_of claims) e.combination e.pair e.verdict (Some flaw) → FailsAs criteria claims (eliminated e) (part_of (broken.Flaw flaw))
 fails_by flaws.Scale criteria claims e room class h = (room, class, (flaws.Scale, refl, h))
 fails_by flaws.Increment criteria claims e room class h = (room, class, (flaws.Increment, refl, h))
 fails_by flaws.Cite criteria claims e room class h = (room, class, (flaws.Cite, refl, h))
@@ -234,7 +236,7 @@ fails_by flaws.Weight criteria claims e room class h = (room, class, (flaws.Weig
 fails_by flaws.Sum criteria claims e room class h = (room, class, (flaws.Sum, refl, h))
 fails_by flaws.Strict criteria claims e room class h = (room, class, (flaws.Strict, refl, h))
 
-pub flawed : (kept : KeptClaims) (e : Elimination) (flaw : Flaw) (part : Part) → kept.count < most_lines → IsClass kept.model e.pair → IsFirstFlaw kept.model.levels kept.answers e.combination e.pair e.verdict (Some flaw) → part ≡ part_of flaw → (criteria : Criteria) (claims : List Claim) → KeepsClaims kept criteria claims → FailsAs criteria claims (eliminated e) part
+pub flawed : (kept : KeptClaims) (e : Elimination) (flaw : Flaw) (part : Part) → kept.count < MAX_EVENTS → IsClass kept.model e.pair → IsFirstFlaw kept.model.levels kept.answers e.combination e.pair e.verdict (Some flaw) → part ≡ part_of (broken.Flaw flaw) → (criteria : Criteria) (claims : List Claim) → KeepsClaims kept criteria claims → FailsAs criteria claims (eliminated e) part
 flawed kept e flaw part room class h is criteria claims keeps =
     let by_model : IsFirstFlaw criteria.levels kept.answers e.combination e.pair e.verdict (Some flaw) = subst (λ (m : Criteria). IsFirstFlaw m.levels kept.answers e.combination e.pair e.verdict (Some flaw)) keeps.model h in
     let by_answers : IsFirstFlaw criteria.levels (answers_of claims) e.combination e.pair e.verdict (Some flaw) = subst (λ (xs : List Answer). IsFirstFlaw criteria.levels xs e.combination e.pair e.verdict (Some flaw)) keeps.answers by_model in

@@ -112,10 +112,11 @@ adds_events old new line a (of_events format survey) h = record {
   lines = rw (a.history, a.same_listed, a.spelled, h.1, map_push (event_line survey.listed.classes) survey.history a.event) refl;
 }
 
-pub stops_events : (old : KeptSurvey) (line : List ℕ) (part : Part) → (line ≢ end_line → Fails (begun (of_events old.format old.survey)) line part) → (content : Content) → line ≢ end_line → Keeps (bodies.Survey old) content → Fails (begun content) line part
-stops_events old line part failed (of_claims criteria claims) no_end h = absurd h
-stops_events old line part failed (of_events format survey) no_end h =
-    subst (λ (s : Recorded). Fails (begun (of_events format s)) line part) h.1 (subst (λ (f : Format). Fails (begun (of_events f old.survey)) line part) h.0 (failed no_end))
+pub stops_events : (old : KeptSurvey) (line : List ℕ) (stop : Stop) → (line ≢ end_line → StopsAt (begun (of_events old.format old.survey)) line stop) → (content : Content)
+    → line ≢ end_line → Keeps (bodies.Survey old) content → StopsAt (begun content) line stop
+stops_events old line stop failed (of_claims criteria claims) no_end h = absurd h
+stops_events old line stop failed (of_events format survey) no_end h =
+    subst (λ (s : Recorded). StopsAt (begun (of_events format s)) line stop) h.1 (subst (λ (f : Format). StopsAt (begun (of_events f old.survey)) line stop) h.0 (failed no_end))
 
 -- ---- whole bodies
 

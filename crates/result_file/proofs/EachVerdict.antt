@@ -28,6 +28,8 @@ use Rattle.survey_core.specs.Recorded.{Recorded}
 use Rattle.survey_core.specs.Legal.{MayFollow}
 use Rattle.survey_core.specs.declared.events.Event.TheVariants as events
 use Rattle.survey_core.proofs.NextKept.{legal_push}
+use Rattle.survey_core.specs.declared.limits.TheConstants.{MAX_EVENTS}
+use Rattle.result_file.specs.declared.limits.TheConstants.{MAX_LINE}
 use Rattle.result_file.specs.declared.eliminations.Elimination.{Elimination}
 use Rattle.result_file.specs.declared.entries.Entry.{Entry}
 use Rattle.result_file.specs.declared.entries.Entry.TheVariants.{Eliminate, Issue, Commit, Close, Withdraw}
@@ -44,11 +46,11 @@ use Rattle.result_file.specs.Contents.{Content, of_claims, of_events, lines_of, 
 use Rattle.result_file.specs.Entries.{HasEntryForm}
 use Rattle.result_file.specs.Events.{as_entry, event_line, Tells}
 use Rattle.result_file.specs.Laws.{IsOnText, EachHasVerdict}
-use Rattle.result_file.specs.Parts.{part_of_broken}
+use Rattle.result_file.specs.Parts.{part_of}
 use Rattle.result_file.specs.Progress.{EndsAs}
 use Rattle.result_file.specs.RightClaims.{HasForm, Holds, IsRight, AreClaims}
 use Rattle.result_file.specs.RightEvents.{AreEvents}
-use Rattle.result_file.specs.Texts.{longest_line, most_lines, heading, end_line, model_line, claim_line, entry_line}
+use Rattle.result_file.specs.Texts.{heading, end_line, model_line, claim_line, entry_line}
 use Rattle.result_file.proofs.ContentLaws.{more_claims, no_claims}
 use Rattle.result_file.proofs.FirstParts.{some_flaw, some_part}
 use Rattle.result_file.proofs.EventLaws.{is_event, not_allowed, stands_read, stands_within}
@@ -127,12 +129,12 @@ starts (kinds.Result format) criteria m =
 claim_stops : (criteria : Criteria) (claims : List Claim) (lines : List (List ℕ)) (line : List ℕ) (claim : Claim) → AreClaims criteria claims
     → lines ≡ lines_of (of_claims criteria claims) → Stops lines (begun (of_claims criteria claims)) line → HasForm criteria claim → line ≡ claim_line claim → ⊥
 claim_stops criteria claims lines line claim right whole stops form spelled =
-    elim (cases_lt (length claims) most_lines) [
+    elim (cases_lt (length claims) MAX_EVENTS) [
       | inr many ↦ stops.fails Limit (claim, form, spelled, many)
       | inl room ↦ stops.fails Class (claim, form, spelled, (room, λ class. judged claim form spelled room class))
     ]
   where
-    adds : (claim : Claim) → HasForm criteria claim → line ≡ claim_line claim → length claims < most_lines → IsClass criteria (pair_of claim) → Holds criteria claims claim → ⊥
+    adds : (claim : Claim) → HasForm criteria claim → line ≡ claim_line claim → length claims < MAX_EVENTS → IsClass criteria (pair_of claim) → Holds criteria claims claim → ⊥
     adds claim form spelled room class holds =
         let is_right : IsRight criteria claims claim = record { form = form; room = room; class = class; proof = holds } in
         let pushed : lines_of (of_claims criteria (claims ++ claim ∷ [])) ≡ lines_of (of_claims criteria claims) ++ line ∷ [] =
@@ -140,7 +142,7 @@ claim_stops criteria claims lines line claim right whole stops form spelled =
         stops.goes (begun (of_claims criteria (claims ++ claim ∷ [])))
         (more_claims criteria claims claim right is_right, ap (λ (ls : List (List ℕ)). ls ++ line ∷ []) whole ∙ sym pushed)
 
-    wrong : (e : Elimination) → HasForm criteria (eliminated e) → line ≡ claim_line (eliminated e) → length claims < most_lines → IsClass criteria e.pair
+    wrong : (e : Elimination) → HasForm criteria (eliminated e) → line ≡ claim_line (eliminated e) → length claims < MAX_EVENTS → IsClass criteria e.pair
         → (flaw : Flaw) → ¬ IsFirstFlaw criteria.levels (answers_of claims) e.combination e.pair e.verdict (Some flaw)
     wrong e form spelled room class flaws.Scale h = stops.fails Scale (eliminated e, form, spelled, (room, class, (flaws.Scale, refl, h)))
     wrong e form spelled room class flaws.Increment h = stops.fails Increment (eliminated e, form, spelled, (room, class, (flaws.Increment, refl, h)))
@@ -149,7 +151,7 @@ claim_stops criteria claims lines line claim right whole stops form spelled =
     wrong e form spelled room class flaws.Sum h = stops.fails Sum (eliminated e, form, spelled, (room, class, (flaws.Sum, refl, h)))
     wrong e form spelled room class flaws.Strict h = stops.fails Strict (eliminated e, form, spelled, (room, class, (flaws.Strict, refl, h)))
 
-    judged : (claim : Claim) → HasForm criteria claim → line ≡ claim_line claim → length claims < most_lines → IsClass criteria (pair_of claim) → ⊥
+    judged : (claim : Claim) → HasForm criteria claim → line ≡ claim_line claim → length claims < MAX_EVENTS → IsClass criteria (pair_of claim) → ⊥
     judged (answered answer) form spelled room class = adds (answered answer) form spelled room class tt
     judged (eliminated e) form spelled room class =
         some_flaw criteria.levels (answers_of claims) e.combination e.pair e.verdict form.combination.len (wrong e form spelled room class)
@@ -160,12 +162,12 @@ entry_stops : (format : Format) (survey : Recorded) (lines : List (List ℕ)) (l
     → lines ≡ lines_of (of_events format survey) → Stops lines (begun (of_events format survey)) line
     → HasEntryForm format survey.listed.criteria entry → line ≡ entry_line entry → ⊥
 entry_stops format survey lines line entry right whole stops form spelled =
-    elim (cases_lt (length survey.history) most_lines) [
+    elim (cases_lt (length survey.history) MAX_EVENTS) [
       | inr many ↦ stops.fails Limit (entry, form, spelled, many)
       | inl room ↦ named room entry form spelled
     ]
   where
-    adds : (event : Event) (entry : Entry) → length survey.history < most_lines → HasEntryForm format survey.listed.criteria entry → line ≡ entry_line entry
+    adds : (event : Event) (entry : Entry) → length survey.history < MAX_EVENTS → HasEntryForm format survey.listed.criteria entry → line ≡ entry_line entry
         → Tells survey.listed entry event → MayFollow survey.listed survey.history event → ⊥
     adds event entry room form spelled tells may =
         let more : Recorded = record { listed = survey.listed; history = survey.history ++ event ∷ [] } in
@@ -181,17 +183,17 @@ entry_stops format survey lines line entry right whole stops form spelled =
         } in
         stops.goes (begun (of_events format more)) (right_more, ap (λ (ls : List (List ℕ)). ls ++ line ∷ []) whole ∙ sym pushed)
 
-    judged : (event : Event) (entry : Entry) → length survey.history < most_lines → HasEntryForm format survey.listed.criteria entry → line ≡ entry_line entry
+    judged : (event : Event) (entry : Entry) → length survey.history < MAX_EVENTS → HasEntryForm format survey.listed.criteria entry → line ≡ entry_line entry
         → Tells survey.listed entry event → ⊥
     judged event entry room form spelled tells =
         some_part survey.listed survey.history event (is_event format survey.listed entry event form tells)
-        (λ lacked h. stops.fails (part_of_broken lacked) (not_allowed lacked (part_of_broken lacked) format survey line entry event form spelled room tells h refl))
+        (λ lacked h. stops.fails (part_of lacked) (not_allowed lacked (part_of lacked) format survey line entry event form spelled room tells h refl))
         (λ may. adds event entry room form spelled tells may)
 
     there : (pair : Pair) → IsClass survey.listed.criteria pair → (place : ℕ) × StandsAt survey.listed.classes place pair
     there pair class = contains_stands survey.listed.classes pair ((right.listed.list.members pair).1 class)
 
-    named : length survey.history < most_lines → (entry : Entry) → HasEntryForm format survey.listed.criteria entry → line ≡ entry_line entry → ⊥
+    named : length survey.history < MAX_EVENTS → (entry : Entry) → HasEntryForm format survey.listed.criteria entry → line ≡ entry_line entry → ⊥
     named room (Eliminate e) form spelled =
         stops.fails Class (
           Eliminate e,
@@ -280,7 +282,7 @@ one_unbroken : (line : List ℕ) → HasNoLineEnd line → All HasNoLineEnd (lin
 one_unbroken line unbroken = All-cons HasNoLineEnd line [] unbroken (All-nil HasNoLineEnd)
 
 too_long : (text : List ℕ) (lines : List (List ℕ)) (stage : Stage) (rest first : List ℕ) → HasCome text lines stage rest → first_line rest ≡ first
-    → longest_line < length first → HasNone text → ⊥
+    → MAX_LINE < length first → HasNone text → ⊥
 too_long text lines stage rest first come is long none =
     none (Invalid (length lines + 1) Form) tt (record {
       lines = lines;
@@ -296,7 +298,7 @@ too_long text lines stage rest first come is long none =
 line_next : (text : List ℕ) (lines : List (List ℕ)) (stage : Stage) (rest line after : List ℕ) → HasNoLineEnd line → rest ≡ line ++ line_end ∷ after
     → ((more : List (List ℕ)) (next : Stage) → length after < length rest → ¬ HasCome text more next after)
     → HasCome text lines stage rest → HasNone text → ⊥
-line_next text lines stage rest line after unbroken is later come none = elim (cases_lt longest_line (length line)) [
+line_next text lines stage rest line after unbroken is later come none = elim (cases_lt MAX_LINE (length line)) [
   | inl long ↦ too_long text lines stage rest line come (ap first_line is ∙ first_line-line line after unbroken) long none
   | inr fits ↦ line_stops stage lines line come.says (record {
     goes = λ next says. later (lines ++ line ∷ []) next (omega (arith, ap length is, length-append line (line_end ∷ after))) (record {
@@ -327,7 +329,7 @@ line_next text lines stage rest line after unbroken is later come none = elim (c
 some_verdict : (fuel : ℕ) (text : List ℕ) (lines : List (List ℕ)) (stage : Stage) (rest : List ℕ) → length rest < fuel → HasCome text lines stage rest → HasNone text → ⊥
 some_verdict zero text lines stage rest short come none = absurd (omega arith)
 some_verdict (suc fuel) text lines stage rest short come none = elim (first_split rest) [
-  | inl unbroken ↦ elim (cases_lt longest_line (length rest)) [
+  | inl unbroken ↦ elim (cases_lt MAX_LINE (length rest)) [
     | inl long ↦ too_long text lines stage rest rest come (first_line-piece rest unbroken) long none
     | inr fits ↦ piece_ends stage rest (length lines + 1) (λ verdict on_text ends.
         none verdict on_text (ends_checked verdict text rest lines stage (length lines + 1) come.split.whole come.split.unbroken unbroken fits come.says refl ends))

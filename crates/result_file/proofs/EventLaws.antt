@@ -15,6 +15,7 @@ use Rattle.survey_core.specs.Recorded.{Recorded}
 use Rattle.survey_core.specs.Legal.{FailsFirst}
 use Rattle.row_laws.proofs.ItemLemmas.{item_positive, item_within}
 use Rattle.survey_core.proofs.PartLemmas.{eliminate_lacks_class, issue_lacks_class, commit_has_no_class, close_has_no_class, withdraw_has_no_class}
+use Rattle.survey_core.specs.declared.limits.TheConstants.{MAX_EVENTS}
 use Rattle.result_file.specs.declared.entries.Entry.{Entry}
 use Rattle.result_file.specs.declared.entries.Format.{Format}
 use Rattle.result_file.specs.declared.entries.Format.TheVariants.{One, Two}
@@ -25,9 +26,9 @@ use Rattle.result_file.specs.Contents.{of_events}
 use Rattle.result_file.specs.Entries.{HasEntryForm, ReadsEntry}
 use Rattle.result_file.specs.Events.{pair_at_place, as_entry, NamesClass, Tells}
 use Rattle.result_file.specs.Kept.{KeptSurvey, AddsEvent}
-use Rattle.result_file.specs.Parts.{part_of_broken}
+use Rattle.result_file.specs.Parts.{part_of}
 use Rattle.result_file.specs.RightEvents.{NamesNoClass, EntryFailsAs}
-use Rattle.result_file.specs.Texts.{most_lines, end_line, entry_line}
+use Rattle.result_file.specs.Texts.{end_line, entry_line}
 
 -- ---- the class of an entry
 
@@ -55,10 +56,10 @@ is_event format listed entry event form tells = told_is_event format listed even
 pub no_entry : (format : Format) (survey : Recorded) (line : List ℕ) → ReadsEntry format survey.listed.criteria line None → line ≢ end_line → Fails (begun (of_events format survey)) line Form
 no_entry format survey line reads no_end = (no_end, λ entry form spelled. let e = reads.complete entry spelled form in absurd cc)
 
-pub over_limit : (format : Format) (survey : Recorded) (line : List ℕ) (entry : Entry) → HasEntryForm format survey.listed.criteria entry → line ≡ entry_line entry → most_lines ≤ length survey.history → Fails (begun (of_events format survey)) line Limit
+pub over_limit : (format : Format) (survey : Recorded) (line : List ℕ) (entry : Entry) → HasEntryForm format survey.listed.criteria entry → line ≡ entry_line entry → MAX_EVENTS ≤ length survey.history → Fails (begun (of_events format survey)) line Limit
 over_limit format survey line entry form spelled many = (entry, form, spelled, many)
 
-pub no_class : (format : Format) (survey : Recorded) (line : List ℕ) (entry : Entry) → HasEntryForm format survey.listed.criteria entry → line ≡ entry_line entry → length survey.history < most_lines → NamesNoClass survey.listed.criteria entry → Fails (begun (of_events format survey)) line Class
+pub no_class : (format : Format) (survey : Recorded) (line : List ℕ) (entry : Entry) → HasEntryForm format survey.listed.criteria entry → line ≡ entry_line entry → length survey.history < MAX_EVENTS → NamesNoClass survey.listed.criteria entry → Fails (begun (of_events format survey)) line Class
 no_class format survey line entry form spelled room none = (entry, form, spelled, (room, none))
 
 -- an event that names its class doesn't lack it
@@ -71,7 +72,7 @@ has_class survey (events.Commit desk question side plus minus point) named fails
 has_class survey (events.Close desk question) named fails = close_has_no_class survey.history question fails
 has_class survey (events.Withdraw desk answer) named fails = withdraw_has_no_class survey.listed survey.history answer fails
 
-breaks : (lacked : Broken) (survey : Recorded) (entry : Entry) (event : Event) → length survey.history < most_lines → Tells survey.listed entry event → FailsFirst survey.listed survey.history event lacked → EntryFailsAs survey entry (part_of_broken lacked)
+breaks : (lacked : Broken) (survey : Recorded) (entry : Entry) (event : Event) → length survey.history < MAX_EVENTS → Tells survey.listed entry event → FailsFirst survey.listed survey.history event lacked → EntryFailsAs survey entry (part_of lacked)
 breaks broken.Class survey entry event room tells fails = absurd (has_class survey event tells.class fails)
 breaks broken.Ranked survey entry event room tells fails = (room, record { event = event; broken = broken.Ranked; tells = tells; fails = fails; named = refl })
 breaks (broken.Flaw flaws.Scale) survey entry event room tells fails = (room, record { event = event; broken = broken.Flaw flaws.Scale; tells = tells; fails = fails; named = refl })
@@ -94,13 +95,13 @@ wrong_part : (part : Part) (format : Format) (survey : Recorded) (line : List �
 wrong_part Form format survey line entry form spelled h = absurd h
 wrong_part part format survey line entry form spelled h = (entry, form, spelled, h)
 
-pub not_allowed : (lacked : Broken) (part : Part) (format : Format) (survey : Recorded) (line : List ℕ) (entry : Entry) (event : Event) → HasEntryForm format survey.listed.criteria entry → line ≡ entry_line entry → length survey.history < most_lines → Tells survey.listed entry event → FailsFirst survey.listed survey.history event lacked → part ≡ part_of_broken lacked → Fails (begun (of_events format survey)) line part
+pub not_allowed : (lacked : Broken) (part : Part) (format : Format) (survey : Recorded) (line : List ℕ) (entry : Entry) (event : Event) → HasEntryForm format survey.listed.criteria entry → line ≡ entry_line entry → length survey.history < MAX_EVENTS → Tells survey.listed entry event → FailsFirst survey.listed survey.history event lacked → part ≡ part_of lacked → Fails (begun (of_events format survey)) line part
 not_allowed lacked part format survey line entry event form spelled room tells fails is =
     wrong_part part format survey line entry form spelled (rw is (breaks lacked survey entry event room tells fails))
 
 -- ---- a line that is right
 
-pub adds_event : (old new : KeptSurvey) (line : List ℕ) (entry : Entry) (event : Event) → HasEntryForm old.format old.survey.listed.criteria entry → line ≡ entry_line entry → length old.survey.history < most_lines → Tells old.survey.listed entry event → new.format ≡ old.format → new.survey.listed ≡ old.survey.listed → new.survey.history ≡ old.survey.history ++ event ∷ [] → IsLegal new.survey.listed new.survey.history → AddsEvent old new line
+pub adds_event : (old new : KeptSurvey) (line : List ℕ) (entry : Entry) (event : Event) → HasEntryForm old.format old.survey.listed.criteria entry → line ≡ entry_line entry → length old.survey.history < MAX_EVENTS → Tells old.survey.listed entry event → new.format ≡ old.format → new.survey.listed ≡ old.survey.listed → new.survey.history ≡ old.survey.history ++ event ∷ [] → IsLegal new.survey.listed new.survey.history → AddsEvent old new line
 adds_event old new line entry event form spelled room tells format listed history legal = record {
   event = event;
   same_format = format;

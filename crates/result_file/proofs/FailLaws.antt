@@ -14,6 +14,8 @@ use Rattle.survey_core.specs.declared.events.Event.TheVariants as events
 use Rattle.survey_core.specs.Recorded.{Recorded}
 use Rattle.survey_core.specs.Legal.{FailsFirst}
 use Rattle.survey_core.proofs.PartLemmas.{first_flaw_once, proved_has_no_flaw, one_first_part_lem, allowed_lacks_none_lem}
+use Rattle.survey_core.specs.declared.limits.TheConstants.{MAX_EVENTS}
+use Rattle.result_file.specs.declared.limits.TheConstants.{MAX_LINE}
 use Rattle.result_file.specs.declared.entries.Entry.{Entry}
 use Rattle.result_file.specs.declared.entries.Format.{Format}
 use Rattle.result_file.specs.declared.kinds.Kind.{Kind}
@@ -24,10 +26,12 @@ use Rattle.result_file.specs.Contents.{Content, of_claims, of_events, criteria_o
 use Rattle.result_file.specs.Checked.{Stage, blank, headed, begun, ended, Says, HasNoForm, HasWrongPart, Fails, HasEnded}
 use Rattle.result_file.specs.Events.{as_entry, NamesClass, Tells}
 use Rattle.result_file.specs.Forms.{HasModelForm}
-use Rattle.result_file.specs.Parts.{part_of, part_of_broken}
+use Rattle.result_file.specs.Parts.{part_of}
+use Rattle.farkas_check.specs.declared.flaws.Flaw.{Flaw}
+use Rattle.survey_core.specs.declared.broken.Broken.TheVariants as broken
 use Rattle.result_file.specs.RightClaims.{IsRight, HasFlaw, FailsAs}
 use Rattle.result_file.specs.RightEvents.{NamesNoClass, BreaksRule, EntryFailsAs}
-use Rattle.result_file.specs.Texts.{longest_line, most_lines, heading, end_line, model_line}
+use Rattle.result_file.specs.Texts.{heading, end_line, model_line}
 use Rattle.result_file.proofs.LengthLaws.{model_form, model_line_fits, claim_line_fits, entry_line_fits}
 use Rattle.result_file.proofs.SpelledLaws.{heading_fits, model_line_once, claim_line_once, claim_line-is_not_end, entry_line_once}
 use Rattle.result_file.proofs.EntryLaws.{entry_line-is_not_end}
@@ -63,18 +67,18 @@ fails_ended content line Form h = refl
 fails_ended content line part h = absurd h
 
 fails_claim : (criteria : Criteria) (before : List Claim) (claim : Claim) (part : Part) → FailsAs criteria before claim part
-    → ((part ≡ Limit) × (most_lines ≤ length before))
-    ⊎ (((part ≡ Class) × (length before < most_lines) × (¬ IsClass criteria (pair_of claim)))
-    ⊎ ((length before < most_lines) × IsClass criteria (pair_of claim) × HasFlaw criteria before claim part))
+    → ((part ≡ Limit) × (MAX_EVENTS ≤ length before))
+    ⊎ (((part ≡ Class) × (length before < MAX_EVENTS) × (¬ IsClass criteria (pair_of claim)))
+    ⊎ ((length before < MAX_EVENTS) × IsClass criteria (pair_of claim) × HasFlaw criteria before claim part))
 fails_claim criteria before claim Form h = absurd h
 fails_claim criteria before claim Limit h = inl (refl, h)
 fails_claim criteria before claim Class h = inr (inl (refl, h.0, h.1))
 fails_claim criteria before claim part h = inr (inr h)
 
 fails_entry : (survey : Recorded) (entry : Entry) (part : Part) → EntryFailsAs survey entry part
-    → ((part ≡ Limit) × (most_lines ≤ length survey.history))
-    ⊎ (((part ≡ Class) × (length survey.history < most_lines) × NamesNoClass survey.listed.criteria entry)
-    ⊎ ((length survey.history < most_lines) × BreaksRule survey entry part))
+    → ((part ≡ Limit) × (MAX_EVENTS ≤ length survey.history))
+    ⊎ (((part ≡ Class) × (length survey.history < MAX_EVENTS) × NamesNoClass survey.listed.criteria entry)
+    ⊎ ((length survey.history < MAX_EVENTS) × BreaksRule survey entry part))
 fails_entry survey entry Form h = absurd h
 fails_entry survey entry Limit h = inl (refl, h)
 fails_entry survey entry Class h = inr (inl (refl, h.0, h.1))
@@ -85,7 +89,7 @@ fails_entry survey entry part h = inr (inr h)
 flaw_once : (criteria : Criteria) (before : List Claim) (claim : Claim) (one other : Part) → HasFlaw criteria before claim one → HasFlaw criteria before claim other → one ≡ other
 flaw_once criteria before (answered a) one other h k = absurd h
 flaw_once criteria before (eliminated e) one other h k =
-    h.1 ∙ ap part_of (first_flaw_once criteria.levels (answers_of before) e.combination e.pair e.verdict h.0 k.0 h.2 k.2) ∙ sym k.1
+    h.1 ∙ ap (λ (flaw : Flaw). part_of (broken.Flaw flaw)) (first_flaw_once criteria.levels (answers_of before) e.combination e.pair e.verdict h.0 k.0 h.2 k.2) ∙ sym k.1
 
 claim_fails_once : (criteria : Criteria) (before : List Claim) (claim : Claim) (one other : Part) → FailsAs criteria before claim one → FailsAs criteria before claim other → one ≡ other
 claim_fails_once criteria before claim one other h k =
@@ -142,7 +146,7 @@ breaks_once survey entry one other list h k =
     let parts : h.broken ≡ k.broken =
     one_first_part_lem survey.listed survey.history k.event h.broken k.broken
     (subst (λ (event : Event). FailsFirst survey.listed survey.history event h.broken) same h.fails) k.fails in
-    h.named ∙ ap part_of_broken parts ∙ sym k.named
+    h.named ∙ ap part_of parts ∙ sym k.named
 
 entry_fails_once : (survey : Recorded) (entry : Entry) (one other : Part) → IsListed survey.listed → EntryFailsAs survey entry one → EntryFailsAs survey entry other → one ≡ other
 entry_fails_once survey entry one other list h k =
@@ -209,13 +213,13 @@ model_has_no_fault criteria m =
 
 -- it isn't too long, the file hasn't ended, and no part of it is wrong
 pub record IsFine (stage : Stage) (line : List ℕ) : Type 0 where
-  pub fits : length line ≤ longest_line
+  pub fits : length line ≤ MAX_LINE
   pub going : ¬ HasEnded stage
   pub right : (part : Part) → ¬ Fails stage line part
 
 fine_heading : (line : List ℕ) (kind : Kind) → line ≡ heading kind → IsFine blank line
 fine_heading line kind spelled = record {
-  fits = subst (λ (l : List ℕ). length l ≤ longest_line) (sym spelled) (heading_fits kind);
+  fits = subst (λ (l : List ℕ). length l ≤ MAX_LINE) (sym spelled) (heading_fits kind);
   going = λ over. over;
   right = λ part h. (fails_blank line part h).1 kind spelled;
 }
@@ -229,7 +233,7 @@ fine_model kind line content begins =
     let criteria : Criteria = criteria_of content in
     let m : IsModel criteria = content_model content begins.right in
     record {
-      fits = subst (λ (l : List ℕ). length l ≤ longest_line) (sym begins.spelled) (model_line_fits criteria m);
+      fits = subst (λ (l : List ℕ). length l ≤ MAX_LINE) (sym begins.spelled) (model_line_fits criteria m);
       going = λ over. over;
       right = λ part h. elim (fails_headed kind line part h) [
         | inl none ↦ none.1 criteria (model_form criteria m) begins.spelled
@@ -256,11 +260,11 @@ adds_holds (of_events format survey) line next part adds wrong =
     entry_line_once format survey.listed.criteria wrong.0 entry adds.listed.model wrong.1 adds.form (sym wrong.2 ∙ adds.spelled) in
     right_event_holds format survey line next part adds (subst (λ (e : Entry). EntryFailsAs survey e part) same wrong.3)
 
-adds_fits : (content : Content) (line : List ℕ) (next : Content) → AddsRight content line next → length line ≤ longest_line
+adds_fits : (content : Content) (line : List ℕ) (next : Content) → AddsRight content line next → length line ≤ MAX_LINE
 adds_fits (of_claims criteria claims) line next adds =
-    subst (λ (l : List ℕ). length l ≤ longest_line) (sym adds.spelled) (claim_line_fits criteria adds.claim adds.model adds.right.form)
+    subst (λ (l : List ℕ). length l ≤ MAX_LINE) (sym adds.spelled) (claim_line_fits criteria adds.claim adds.model adds.right.form)
 adds_fits (of_events format survey) line next adds =
-    subst (λ (l : List ℕ). length l ≤ longest_line) (sym adds.spelled)
+    subst (λ (l : List ℕ). length l ≤ MAX_LINE) (sym adds.spelled)
     (entry_line_fits format survey.listed.criteria (as_entry survey.listed.classes adds.event) adds.listed.model adds.form)
 
 fine_next : (content : Content) (line : List ℕ) (next : Content) → AddsRight content line next → IsFine (begun content) line
@@ -280,7 +284,7 @@ end_holds (of_events format survey) line part is wrong = entry_line-is_not_end w
 
 fine_end : (content : Content) (line : List ℕ) → line ≡ end_line → IsFine (begun content) line
 fine_end content line is = record {
-  fits = subst (λ (l : List ℕ). length l ≤ longest_line) (sym is) (omega arith);
+  fits = subst (λ (l : List ℕ). length l ≤ MAX_LINE) (sym is) (omega arith);
   going = λ over. over;
   right = λ part h. elim (fails_begun content line part h) [ inl none ↦ none.1 is | inr wrong ↦ end_holds content line part is wrong ];
 }

@@ -15,6 +15,7 @@ use Rattle.criteria_model.specs.Worth.{increments}
 use Rattle.criteria_model.specs.Criteria.{Criteria, IsModel}
 use Rattle.farkas_check.specs.declared.cites.Cite.{Cite}
 use Rattle.farkas_check.specs.declared.combination.Combination.{Combination}
+use Rattle.result_file.specs.declared.limits.TheConstants.{MAX_LINE}
 use Rattle.result_file.specs.declared.eliminations.Elimination.{Elimination}
 use Rattle.result_file.specs.declared.entries.Entry.{Entry}
 use Rattle.result_file.specs.declared.entries.Entry.TheVariants.{Eliminate, Issue, Commit, Close, Withdraw}
@@ -25,7 +26,7 @@ use Rattle.result_file.specs.Entries.{HasDeskForm, HasNumberForm, HasVectorForm,
 use Rattle.result_file.specs.Forms.{HasModelForm, HasPairForm, HasCombinationForm, HasEliminationForm}
 use Rattle.result_file.specs.RightClaims.{HasForm}
 use Rattle.result_file.proofs.ClaimLaws.{is_small}
-use Rattle.result_file.specs.Texts.{longest_line, model_line, pair_text, side_text, ranking_text, cite_text, cites_text, combination_text, elimination_line, claim_line, vector_text, vectors_text, numbers_text, entry_line}
+use Rattle.result_file.specs.Texts.{model_line, pair_text, side_text, ranking_text, cite_text, cites_text, combination_text, elimination_line, claim_line, vector_text, vectors_text, numbers_text, entry_line}
 
 -- ---- numbers and lists of them
 
@@ -94,7 +95,7 @@ model_form criteria m =
       degree = omega (arith, m.degree_within, small.most);
     }
 
-pub model_line_fits : (criteria : Criteria) → IsModel criteria → length (model_line criteria) ≤ longest_line
+pub model_line_fits : (criteria : Criteria) → IsModel criteria → length (model_line criteria) ≤ MAX_LINE
 model_line_fits criteria m =
     let small = is_small criteria m in
     let levels : All (λ n. n ≤ 24 + 1) criteria.levels = levels_within criteria.levels 24 m.few_increments in
@@ -159,7 +160,7 @@ combination_most criteria c m h =
       length3 (signed_decimal c.scale) (codes " ") (listed signed_decimal c.increments),
     )
 
-elimination_most : (criteria : Criteria) (e : Elimination) → IsModel criteria → HasEliminationForm criteria e → length (elimination_line e) ≤ longest_line
+elimination_most : (criteria : Criteria) (e : Elimination) → IsModel criteria → HasEliminationForm criteria e → length (elimination_line e) ≤ MAX_LINE
 elimination_most criteria e m h =
     let ranking : Answer = record { pair = e.pair; side = e.verdict } in
     let worker : length (decimal e.worker) ≤ 2 = decimal_most 2 e.worker (omega arith) (omega (arith, h.worker)) (omega (arith, h.worker)) in
@@ -195,13 +196,13 @@ numbers_most desk number desk_form number_form =
 
 -- ---- the lines of claims and entries
 
-pub claim_line_fits : (criteria : Criteria) (claim : Claim) → IsModel criteria → HasForm criteria claim → length (claim_line claim) ≤ longest_line
+pub claim_line_fits : (criteria : Criteria) (claim : Claim) → IsModel criteria → HasForm criteria claim → length (claim_line claim) ≤ MAX_LINE
 claim_line_fits criteria (answered answer) m h =
     omega (arith, ranking_most criteria answer m h, length2 (codes "answer ") (ranking_text answer))
 claim_line_fits criteria (eliminated e) m h = elimination_most criteria e m h
 
 pub entry_line_fits : (format : Format) (criteria : Criteria) (entry : Entry) → IsModel criteria → HasEntryForm format criteria entry
-    → length (entry_line entry) ≤ longest_line
+    → length (entry_line entry) ≤ MAX_LINE
 entry_line_fits format criteria (Eliminate e) m h = elimination_most criteria e m h
 entry_line_fits format criteria (Issue desk pair plus minus) m h =
     omega (

@@ -4,6 +4,7 @@ use Rattle.std.specs.List.{All}
 use Rattle.std.proofs.lemmas.List.Elements.{All-nil, All-cons, All-append}
 use Rattle.edges.specs.Line.{Splits, line_end, HasNoLineEnd, HasLineEnd, unlines, first_line}
 use Rattle.edges.proofs.LineLaws.{first_line-line, first_line-piece, HasLineEnd-line, HasNoLineEnd-not}
+use Rattle.result_file.specs.declared.limits.TheConstants.{MAX_LINE}
 use Rattle.result_file.specs.declared.verdicts.Checked.{Checked}
 use Rattle.result_file.specs.declared.verdicts.Checked.TheVariants.{Valid, ValidComplete, Invalid, Unfinished, ReadFault, NoMemory}
 use Rattle.result_file.specs.declared.verdicts.Part.{Part}
@@ -12,7 +13,7 @@ use Rattle.result_file.specs.Contents.{Content, of_claims, of_events, lines_of, 
 use Rattle.result_file.specs.Checked.{Stage, blank, headed, begun, ended, Says, Fails, HasEnded, NextLineFails, NextFails, LeavesOpen, IsCut, IsFileOf, IsChecked}
 use Rattle.result_file.specs.Events.{as_entry}
 use Rattle.result_file.specs.Laws.{OneContent, IsOnText, OneVerdict}
-use Rattle.result_file.specs.Texts.{longest_line, heading, end_line, model_line}
+use Rattle.result_file.specs.Texts.{heading, end_line, model_line}
 use Rattle.edges.proofs.SplitLaws.{line_once, GoesOnTo, one_goes_on}
 use Rattle.result_file.proofs.LengthLaws.{model_form}
 use Rattle.result_file.proofs.LineEndLaws.{HasNoLineEnd-heading, HasNoLineEnd-model_line, HasNoLineEnd-claim_line, HasNoLineEnd-entry_line, HasNoLineEnd-end_line}
@@ -253,7 +254,7 @@ not_complete_and_not stage rest h k =
     let both = whole_both stage rest (λ content. ¬ IsCompleteContent content) IsCompleteContent h k in
     both.1 both.2
 
-whole_not_long : (stage : Stage) (rest : List ℕ) (P : Content → Type 0) → IsWhole stage rest P → ¬ (longest_line < length (first_line rest))
+whole_not_long : (stage : Stage) (rest : List ℕ) (P : Content → Type 0) → IsWhole stage rest P → ¬ (MAX_LINE < length (first_line rest))
 whole_not_long blank rest P h long = h
 whole_not_long (headed kind) rest P h long = h
 whole_not_long (begun content) rest P h long = let short : length (first_line rest) ≡ 3 = ap (λ (t : List ℕ). length (first_line t)) h.0 in omega (arith, long, short)
@@ -298,7 +299,7 @@ next_not_cut stage rest part h cut =
     ]
 
 -- a line that comes next isn't too long
-next_not_long : (stage : Stage) (rest : List ℕ) (part : Part) → NextLineFails stage rest part → ¬ (longest_line < length (first_line rest))
+next_not_long : (stage : Stage) (rest : List ℕ) (part : Part) → NextLineFails stage rest part → ¬ (MAX_LINE < length (first_line rest))
 next_not_long stage rest part next long =
     let same : first_line rest ≡ next.line =
     ap first_line (one_line rest next.line next.after next.split) ∙ first_line-line next.line next.after (next.split.unbroken 0 next.line (omega arith)) in

@@ -14,6 +14,7 @@ use Rattle.survey_core.specs.Legal.{MayFollow, IsLegal}
 use Rattle.survey_core.specs.Recorded.{Recorded}
 use Rattle.survey_core.proofs.ListSteps.{slice_get-append, slice_get-last}
 use Rattle.survey_core.proofs.ShortLemmas.{legal_is_short_lem}
+use Rattle.survey_core.specs.declared.limits.TheConstants.{MAX_EVENTS}
 use Rattle.result_file.specs.declared.entries.Format.{Format}
 use Rattle.result_file.specs.declared.kinds.Kind.{Kind}
 use Rattle.result_file.specs.declared.kinds.Kind.TheVariants as kinds
@@ -24,7 +25,7 @@ use Rattle.result_file.specs.Entries.{HasEntryForm}
 use Rattle.result_file.specs.Events.{as_entry, event_line}
 use Rattle.result_file.specs.RightClaims.{IsRight, AreClaims}
 use Rattle.result_file.specs.RightEvents.{AreEvents}
-use Rattle.result_file.specs.Texts.{most_lines, heading, end_line, model_line, claim_line}
+use Rattle.result_file.specs.Texts.{heading, end_line, model_line, claim_line}
 use Rattle.result_file.proofs.ListEnds.{snoc_once, snoc_cases}
 use Rattle.result_file.proofs.SpelledLaws.{heading_once, model_line_once, claim_line_once, claim_line-is_not_end, entry_line_once}
 use Rattle.result_file.proofs.LengthLaws.{model_form, model_line_fits}
@@ -54,7 +55,7 @@ pub record AddsRightEvent (format : Format) (survey : Recorded) (line : List ℕ
   pub listed : IsListed survey.listed
   pub may : MayFollow survey.listed survey.history event
   pub form : HasEntryForm format survey.listed.criteria (as_entry survey.listed.classes event)
-  pub room : length survey.history < most_lines
+  pub room : length survey.history < MAX_EVENTS
   pub spelled : line ≡ event_line survey.listed.classes event
   pub is : next ≡ of_events format (record { listed = survey.listed; history = survey.history ++ event ∷ [] })
 

@@ -12,6 +12,7 @@ use Rattle.std.proofs.lemmas.Bool.{cases_lt}
 use Rattle.std.proofs.lemmas.List.{length-map}
 use Rattle.criteria_model.specs.Criteria.{Criteria}
 use Rattle.survey_core.proofs.ShortLemmas.{legal_is_short_lem}
+use Rattle.survey_core.specs.declared.limits.TheConstants.{MAX_EVENTS}
 use Rattle.result_file.specs.Claims.{Claim}
 use Rattle.result_file.specs.declared.progress.Progress.{Progress}
 use Rattle.result_file.specs.declared.progress.Progress.TheVariants as reached
@@ -25,7 +26,7 @@ use Rattle.result_file.specs.Contents.{Content, of_claims, of_events, lines_of, 
 use Rattle.result_file.specs.Events.{event_line}
 use Rattle.result_file.specs.Progress.{IsAtStage, GoesOn, EndsWhole, EndsAs, HasCome}
 use Rattle.result_file.specs.RightClaims.{AreClaims}
-use Rattle.result_file.specs.Texts.{most_lines, end_line, claim_line}
+use Rattle.result_file.specs.Texts.{end_line, claim_line}
 
 for_told : (text : Option (List ℕ)) (P : List ℕ → Type 0) → ((bytes : List ℕ) → text ≡ Some bytes → P bytes) → IfSome text P
 for_told None P f = tt
@@ -161,7 +162,7 @@ long_checked text before now left number progress new h g ahead longest =
 -- ---- the loop over the lines
 
 -- each claim's number is below the most
-claim_number : (n : ℕ) (criteria : Criteria) (claims : List Claim) → AreClaims criteria claims → n < length claims → n < most_lines
+claim_number : (n : ℕ) (criteria : Criteria) (claims : List Claim) → AreClaims criteria claims → n < length claims → n < MAX_EVENTS
 claim_number n criteria [] h lt = absurd (omega arith)
 claim_number n criteria (claim ∷ claims) h lt =
     let e : claim ∷ claims ≡ take n (claim ∷ claims) ++ get_or (claim ∷ claims) n claim ∷ drop (suc n) (claim ∷ claims) =
@@ -170,14 +171,14 @@ claim_number n criteria (claim ∷ claims) h lt =
     let len : length (take n (claim ∷ claims)) ≡ n = simp length-take (omega arith) in
     omega (arith, room, len)
 
-few_claims : (criteria : Criteria) (claims : List Claim) → AreClaims criteria claims → length claims ≤ most_lines
+few_claims : (criteria : Criteria) (claims : List Claim) → AreClaims criteria claims → length claims ≤ MAX_EVENTS
 few_claims criteria claims h =
-    elim (cases_lt most_lines (length claims)) [
-      | inl lt ↦ let same = claim_number most_lines criteria claims h lt in absurd (omega arith)
+    elim (cases_lt MAX_EVENTS (length claims)) [
+      | inl lt ↦ let same = claim_number MAX_EVENTS criteria claims h lt in absurd (omega arith)
       | inr le ↦ le
     ]
 
-few_in_body : (content : Content) → IsRightContent content → length (body_of content) ≤ most_lines
+few_in_body : (content : Content) → IsRightContent content → length (body_of content) ≤ MAX_EVENTS
 few_in_body (of_claims criteria claims) h = omega (arith, few_claims criteria claims h, length-map claims claim_line)
 few_in_body (of_events format survey) h = omega (arith, legal_is_short_lem survey.listed survey.history h.listed h.legal, length-map survey.history (event_line survey.listed.classes))
 

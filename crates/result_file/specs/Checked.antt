@@ -4,6 +4,7 @@ use Rattle.std.specs.Prelude.{◌≡◌, ◌≢◌, ◌⊎◌, ℕ, ◌+◌, ◌
 use Rattle.edges.specs.Line.{HasNoLineEnd, Splits, first_line, unlines}
 use Rattle.criteria_model.specs.Criteria.{Criteria}
 use Rattle.criteria_model.specs.Faults.{model_fault}
+use Rattle.result_file.specs.declared.limits.TheConstants.{MAX_LINE}
 use Rattle.result_file.specs.declared.entries.Entry.{Entry}
 use Rattle.result_file.specs.declared.kinds.Kind.{Kind}
 use Rattle.result_file.specs.declared.verdicts.Part.{Part}
@@ -16,7 +17,7 @@ use Rattle.result_file.specs.Entries.{HasEntryForm}
 use Rattle.result_file.specs.Forms.{HasModelForm}
 use Rattle.result_file.specs.RightClaims.{HasForm, FailsAs}
 use Rattle.result_file.specs.RightEvents.{EntryFailsAs}
-use Rattle.result_file.specs.Texts.{longest_line, heading, end_line, model_line, claim_line, entry_line}
+use Rattle.result_file.specs.Texts.{heading, end_line, model_line, claim_line, entry_line}
 
 -- how far right lines have come: no line, the heading, a model and claims or events, or all of the file
 pub data Stage : Type 0 where
@@ -60,7 +61,7 @@ pub record NextLineFails (stage : Stage) (rest : List ℕ) (part : Part) : Type 
   pub line : List ℕ
   pub after : List ℕ
   pub split : Splits rest (line ∷ []) after
-  pub fits : length line ≤ longest_line
+  pub fits : length line ≤ MAX_LINE
   pub fails : Fails stage line part
 
 -- the file has ended
@@ -71,7 +72,7 @@ HasEnded _ = ⊥
 -- what comes next fails: more bytes than the longest line's without a line end, any byte after the end, or a whole line
 abbrev pub NextFails : Stage → List ℕ → Part → Type 0
 NextFails stage rest part =
-    ((longest_line < length (first_line rest)) × (part ≡ Form))
+    ((MAX_LINE < length (first_line rest)) × (part ≡ Form))
     ⊎ (HasEnded stage × (rest ≢ []) × (part ≡ Form))
     ⊎ NextLineFails stage rest part
 
@@ -93,7 +94,7 @@ pub record ComesTo (text : List ℕ) (line : ℕ) (P : Stage → List ℕ → Ty
 
 -- a line without its line end that isn't too long, and leaves the file open
 abbrev pub IsCut : Stage → List ℕ → Type 0
-IsCut stage rest = HasNoLineEnd rest × (length rest ≤ longest_line) × LeavesOpen stage rest
+IsCut stage rest = HasNoLineEnd rest × (length rest ≤ MAX_LINE) × LeavesOpen stage rest
 
 -- all lines of a file with this right content, the last with its line end or without it
 pub record IsFileOf (content : Content) (text : List ℕ) : Type 0 where

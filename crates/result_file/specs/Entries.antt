@@ -3,6 +3,7 @@ use Rattle.std.specs.Prelude.{◌≡◌, ℕ, ◌≤◌, List, All, Option, Some
 use Rattle.text_fields.specs.Spelling.{IsCertificate}
 use Rattle.criteria_model.specs.Criteria.{Criteria}
 use Rattle.criteria_model.specs.Worth.{IsValueVector}
+use Rattle.survey_core.specs.declared.limits.TheConstants.{MAX_DESKS, MAX_EVENTS}
 use Rattle.result_file.specs.declared.entries.Entry.{Entry}
 use Rattle.result_file.specs.declared.entries.Entry.TheVariants.{Eliminate, Issue, Commit, Close, Withdraw}
 use Rattle.result_file.specs.declared.entries.Format.{Format}
@@ -12,11 +13,11 @@ use Rattle.result_file.specs.Texts.{entry_line}
 
 -- a desk from 1 to 4
 abbrev pub HasDeskForm : ℕ → Type 0
-HasDeskForm desk = (1 ≤ desk) × (desk ≤ 4)
+HasDeskForm desk = (1 ≤ desk) × (desk ≤ MAX_DESKS)
 
 -- the number of a question or of an answer, from 1 to 131,072
 abbrev pub HasNumberForm : ℕ → Type 0
-HasNumberForm number = (1 ≤ number) × (number ≤ 131072)
+HasNumberForm number = (1 ≤ number) × (number ≤ MAX_EVENTS)
 
 -- a value vector, each number of it below 2^96
 pub record HasVectorForm (criteria : Criteria) (vector : List ℤ) : Type 0 where

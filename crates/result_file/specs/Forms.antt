@@ -6,13 +6,15 @@ use Rattle.criteria_model.specs.Worth.{increments}
 use Rattle.text_fields.specs.Spelling.{IsCertificate}
 use Rattle.farkas_check.specs.declared.combination.Combination.{Combination}
 use Rattle.farkas_check.specs.Cited.{AreCites}
+use Rattle.survey_core.specs.declared.limits.TheConstants.{MAX_EVENTS, MAX_WORKERS}
+use Rattle.result_file.specs.declared.limits.TheConstants.{MAX_MODEL_NUMBER}
 use Rattle.result_file.specs.declared.eliminations.Elimination.{Elimination}
 
 -- numbers that a model line may have: at least one level count, and each number at most 999
 pub record HasModelForm (criteria : Criteria) : Type 0 where
   pub some : 1 ≤ length criteria.levels
-  pub levels : All (λ n. n ≤ 999) criteria.levels
-  pub degree : criteria.degree ≤ 999
+  pub levels : All (λ n. n ≤ MAX_MODEL_NUMBER) criteria.levels
+  pub degree : criteria.degree ≤ MAX_MODEL_NUMBER
 
 -- a list that a pair may have: one number up to 25 for each criterion
 pub record HasSideForm (criteria : Criteria) (levels : List ℕ) : Type 0 where
@@ -30,10 +32,10 @@ pub record HasCombinationForm (criteria : Criteria) (combination : Combination) 
   pub len : length combination.increments ≡ increments criteria.levels
   pub weights : All IsCertificate combination.increments
   pub cites : AreCites combination.answers
-  pub numbers : All (λ cite. cite.answer ≤ 131072) combination.answers
+  pub numbers : All (λ cite. cite.answer ≤ MAX_EVENTS) combination.answers
 
 -- an elimination by a worker from 0 (a session's own call) to 16
 pub record HasEliminationForm (criteria : Criteria) (elimination : Elimination) : Type 0 where
-  pub worker : elimination.worker ≤ 16
+  pub worker : elimination.worker ≤ MAX_WORKERS
   pub pair : HasPairForm criteria elimination.pair
   pub combination : HasCombinationForm criteria elimination.combination

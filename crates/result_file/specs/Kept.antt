@@ -6,12 +6,13 @@ use Rattle.criteria_model.specs.Classes.{IsClass}
 use Rattle.pair_enumeration.specs.Listed.{IsListed}
 use Rattle.survey_core.specs.declared.events.Event.{Event}
 use Rattle.survey_core.specs.Recorded.{Recorded}
+use Rattle.survey_core.specs.declared.limits.TheConstants.{MAX_EVENTS}
 use Rattle.result_file.specs.declared.entries.Format.{Format}
 use Rattle.result_file.specs.Claims.{Claim, answers_of, pair_of}
 use Rattle.result_file.specs.Events.{event_line}
 use Rattle.result_file.specs.RightClaims.{Holds, IsRight}
 use Rattle.result_file.specs.RightEvents.{AreEvents}
-use Rattle.result_file.specs.Texts.{most_lines, claim_line}
+use Rattle.result_file.specs.Texts.{claim_line}
 
 -- what a reader keeps of claims: the model, how many came, and the answers among them
 pub record KeptClaims : Type 0 where
@@ -27,7 +28,7 @@ pub record KeepsClaims (kept : KeptClaims) (criteria : Criteria) (claims : List 
 
 -- the claim is right after these, apart from its form, and is kept
 pub record AcceptsClaim (new : KeptClaims) (criteria : Criteria) (claims : List Claim) (claim : Claim) : Type 0 where
-  pub room : length claims < most_lines
+  pub room : length claims < MAX_EVENTS
   pub class : IsClass criteria (pair_of claim)
   pub proof : Holds criteria claims claim
   pub kept : KeepsClaims new criteria (claims ++ claim ∷ [])

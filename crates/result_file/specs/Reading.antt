@@ -9,6 +9,8 @@ use Rattle.criteria_model.specs.declared.pairs.Side.{Side}
 use Rattle.criteria_model.specs.declared.pairs.Side.TheVariants.{Left, Right, Equal}
 use Rattle.farkas_check.specs.declared.cites.Cite.{Cite}
 use Rattle.farkas_check.specs.declared.combination.Combination.{Combination}
+use Rattle.survey_core.specs.declared.limits.TheConstants.{MAX_EVENTS}
+use Rattle.result_file.specs.declared.limits.TheConstants.{MAX_MODEL_NUMBER}
 use Rattle.result_file.specs.declared.eliminations.Elimination.{Elimination}
 use Rattle.result_file.specs.declared.entries.Entry.{Entry}
 use Rattle.result_file.specs.declared.entries.Entry.TheVariants.{Issue, Commit, Close, Withdraw}
@@ -33,9 +35,9 @@ exactly count read = read >>= λ found. if length found.0 == count then Some fou
 unfoldable pub read_model : List ℕ → Option (List ℕ × ℕ)
 read_model line =
     read_word (codes "model ") line >>= λ word.
-    read_list (read_number 999) 2048 word.1 >>= λ levels.
+    read_list (read_number MAX_MODEL_NUMBER) 2048 word.1 >>= λ levels.
     read_word (codes " degree ") levels.1 >>= λ blank.
-    read_number 999 blank.1 >>= λ degree.
+    read_number MAX_MODEL_NUMBER blank.1 >>= λ degree.
     at_end (levels.0, degree.0) degree.1
 
 -- the levels of one side of a pair, for so many criteria
@@ -82,7 +84,7 @@ read_weights increments text = exactly increments (read_list read_certificate 24
 -- a cited answer and its weight
 unfoldable pub read_cite : List ℕ → Option (Cite × List ℕ)
 read_cite text =
-    read_number 131072 text >>= λ answer.
+    read_number MAX_EVENTS text >>= λ answer.
     read_word (codes ":") answer.1 >>= λ colon.
     read_certificate colon.1 >>= λ weight.
     Some (record { answer = answer.0; weight = weight.0 }, weight.1)
@@ -129,7 +131,7 @@ unfoldable pub read_numbers : List ℕ → Option ((ℕ × ℕ) × List ℕ)
 read_numbers text =
     read_desk text >>= λ desk.
     read_word (codes " ") desk.1 >>= λ blank.
-    read_counted 131072 blank.1 >>= λ number.
+    read_counted MAX_EVENTS blank.1 >>= λ number.
     Some ((desk.0, number.0), number.1)
 
 -- a vector with a positive number for each of so many increments

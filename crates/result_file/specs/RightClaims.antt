@@ -5,12 +5,13 @@ use Rattle.criteria_model.specs.Classes.{IsClass}
 use Rattle.farkas_check.specs.declared.flaws.Flaw.{Flaw}
 use Rattle.farkas_check.specs.Flaws.{IsFirstFlaw}
 use Rattle.farkas_check.specs.Proof.{Proves}
+use Rattle.survey_core.specs.declared.broken.Broken.TheVariants as broken
+use Rattle.survey_core.specs.declared.limits.TheConstants.{MAX_EVENTS}
 use Rattle.result_file.specs.declared.verdicts.Part.{Part}
 use Rattle.result_file.specs.declared.verdicts.Part.TheVariants.{Form, Limit, Class}
 use Rattle.result_file.specs.Claims.{Claim, answered, eliminated, pair_of, answers_of}
 use Rattle.result_file.specs.Forms.{HasPairForm, HasEliminationForm}
 use Rattle.result_file.specs.Parts.{part_of}
-use Rattle.result_file.specs.Texts.{most_lines}
 
 -- a claim that may stand in a file of this model
 abbrev pub HasForm : Criteria → Claim → Type 0
@@ -25,7 +26,7 @@ Holds criteria before (eliminated e) = Proves criteria.levels (answers_of before
 -- a claim that is right after the claims before it
 pub record IsRight (criteria : Criteria) (before : List Claim) (claim : Claim) : Type 0 where
   pub form : HasForm criteria claim
-  pub room : length before < most_lines
+  pub room : length before < MAX_EVENTS
   pub class : IsClass criteria (pair_of claim)
   pub proof : Holds criteria before claim
 
@@ -38,11 +39,11 @@ pub record AreClaims (criteria : Criteria) (claims : List Claim) : Type 0 where
 abbrev pub HasFlaw : Criteria → List Claim → Claim → Part → Type 0
 HasFlaw criteria before (answered answer) part = ⊥
 HasFlaw criteria before (eliminated e) part =
-    (flaw : Flaw) × (part ≡ part_of flaw) × IsFirstFlaw criteria.levels (answers_of before) e.combination e.pair e.verdict (Some flaw)
+    (flaw : Flaw) × (part ≡ part_of (broken.Flaw flaw)) × IsFirstFlaw criteria.levels (answers_of before) e.combination e.pair e.verdict (Some flaw)
 
 -- the first part of a claim's line that is wrong after the claims before it, where its form is right
 abbrev pub FailsAs : Criteria → List Claim → Claim → Part → Type 0
 FailsAs criteria before claim Form = ⊥
-FailsAs criteria before claim Limit = most_lines ≤ length before
-FailsAs criteria before claim Class = (length before < most_lines) × (¬ IsClass criteria (pair_of claim))
-FailsAs criteria before claim part = (length before < most_lines) × IsClass criteria (pair_of claim) × HasFlaw criteria before claim part
+FailsAs criteria before claim Limit = MAX_EVENTS ≤ length before
+FailsAs criteria before claim Class = (length before < MAX_EVENTS) × (¬ IsClass criteria (pair_of claim))
+FailsAs criteria before claim part = (length before < MAX_EVENTS) × IsClass criteria (pair_of claim) × HasFlaw criteria before claim part

@@ -8,6 +8,7 @@ use Rattle.survey_core.specs.declared.broken.Broken.{Broken}
 use Rattle.survey_core.specs.Legal.{IsLegal}
 use Rattle.survey_core.specs.Recorded.{Recorded}
 use Rattle.survey_core.specs.Legal.{FailsFirst}
+use Rattle.survey_core.specs.declared.limits.TheConstants.{MAX_EVENTS}
 use Rattle.result_file.specs.declared.entries.Format.{Format}
 use Rattle.result_file.specs.declared.entries.Entry.{Entry}
 use Rattle.result_file.specs.declared.entries.Entry.TheVariants.{Eliminate, Issue}
@@ -15,8 +16,7 @@ use Rattle.result_file.specs.declared.verdicts.Part.{Part}
 use Rattle.result_file.specs.declared.verdicts.Part.TheVariants.{Form, Limit, Class}
 use Rattle.result_file.specs.Entries.{HasEntryForm}
 use Rattle.result_file.specs.Events.{as_entry, Tells}
-use Rattle.result_file.specs.Parts.{part_of_broken}
-use Rattle.result_file.specs.Texts.{most_lines}
+use Rattle.result_file.specs.Parts.{part_of}
 
 -- a model with its class list and a legal history of it, whose events may stand in a file of this format; so there are at most
 -- 131,072 of them
@@ -37,11 +37,11 @@ pub record BreaksRule (survey : Recorded) (entry : Entry) (part : Part) : Type 0
   pub broken : Broken
   pub tells : Tells survey.listed entry event
   pub fails : FailsFirst survey.listed survey.history event broken
-  pub named : part ≡ part_of_broken broken
+  pub named : part ≡ part_of broken
 
 -- the first part of an entry that is wrong after these events, where its form is right
 abbrev pub EntryFailsAs : Recorded → Entry → Part → Type 0
 EntryFailsAs survey entry Form = ⊥
-EntryFailsAs survey entry Limit = most_lines ≤ length survey.history
-EntryFailsAs survey entry Class = (length survey.history < most_lines) × NamesNoClass survey.listed.criteria entry
-EntryFailsAs survey entry part = (length survey.history < most_lines) × BreaksRule survey entry part
+EntryFailsAs survey entry Limit = MAX_EVENTS ≤ length survey.history
+EntryFailsAs survey entry Class = (length survey.history < MAX_EVENTS) × NamesNoClass survey.listed.criteria entry
+EntryFailsAs survey entry part = (length survey.history < MAX_EVENTS) × BreaksRule survey entry part

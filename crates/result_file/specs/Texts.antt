@@ -17,14 +17,6 @@ use Rattle.result_file.specs.declared.kinds.Kind.{Kind}
 use Rattle.result_file.specs.declared.kinds.Kind.TheVariants.{Claims, Result}
 use Rattle.result_file.specs.Claims.{Claim, answered, eliminated}
 
--- the longest line
-abbrev pub longest_line : ℕ
-longest_line = 4096
-
--- the most lines between the model line and the end
-abbrev pub most_lines : ℕ
-most_lines = 131072
-
 -- the first line of a file of this kind
 abbrev pub heading : Kind → List ℕ
 heading Claims = codes "paprika claims 1"

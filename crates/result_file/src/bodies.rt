@@ -41,10 +41,7 @@ impl Body {
     {
         match self {
             Body::Claims(claims) => claims.add(line),
-            Body::Survey(survey) => match survey.add(line) {
-                Ok(()) => Ok(()),
-                Err(part) => Err(Stop::Wrong(part)),
-            },
+            Body::Survey(survey) => survey.add(line),
         }
     }
 

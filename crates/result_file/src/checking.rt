@@ -2,19 +2,16 @@ ghost use Rattle.std.specs.Prelude.{◌≡◌, ℕ, ◌+◌, ◌<◌, ◌≤◌,
 ghost use Rattle.edges.specs.Faults.{CountsFaults};
 ghost use Rattle.edges.specs.Lines.{ahead};
 ghost use Rattle.edges.specs.Told.{IsAtEnd};
-ghost use Rattle.result_file.specs.Texts.{longest_line};
 ghost use Rattle.result_file.specs.Checked.{IsToldChecked};
 ghost use Rattle.result_file.specs.Progress.{HasCome};
 ghost use Rattle.result_file.specs.Verdicts.{EndsInput};
 
+use crate::limits::MAX_LINE;
 use crate::progress::Progress;
 use crate::stops::Stop;
 use crate::verdicts::{Checked, Part};
 use edges::{LineGot, Lines, Source};
 use std::alloc::Global;
-
-/// The longest line.
-const LONGEST_LINE: u32 = 4096;
 
 /// Checks the file that `source` holds.
 pub fn check_result<S: Source>(alloc: Global, source: &mut S) -> Checked
@@ -22,7 +19,7 @@ pub fn check_result<S: Source>(alloc: Global, source: &mut S) -> Checked
     ensures faults { CountsFaults (result ≡ Checked.ReadFault) (S.faults source.old) (S.faults source.new) }
     ensures ended { EndsInput result (S.left source.new) }
 {
-    match Lines::reserve(alloc, LONGEST_LINE) {
+    match Lines::reserve(alloc, MAX_LINE) {
         Ok(lines) => check_lines(alloc, lines, source),
         Err(_) => Checked::NoMemory,
     }
@@ -30,7 +27,7 @@ pub fn check_result<S: Source>(alloc: Global, source: &mut S) -> Checked
 
 /// Checks the file that comes line by line.
 fn check_lines<S: Source>(alloc: Global, lines: Lines, source: &mut S) -> Checked
-    requires longest { lines.longest ≡ longest_line }
+    requires longest { lines.longest ≡ MAX_LINE }
     requires none_kept { lines.kept ≡ [] }
     ensures checked { IsToldChecked (S.left source.old) result }
     ensures faults { CountsFaults (result ≡ Checked.ReadFault) (S.faults source.old) (S.faults source.new) }
@@ -56,7 +53,7 @@ fn next_progress<S: Source>(
     progress: Progress,
     number: u32,
 ) -> Result<Progress, Checked>
-    requires { lines.old.longest ≡ longest_line }
+    requires { lines.old.longest ≡ MAX_LINE }
     ensures next { IfOk result (λ next. (text : Option (List ℕ)) →
         HasCome text (ahead lines.old (S.left source.old)) number progress → HasCome text (ahead lines.new (S.left source.new)) (number + 1) next) }
     ensures verdict { IfErr result (λ verdict. (text : Option (List ℕ)) →

@@ -3,7 +3,7 @@ ghost use Rattle.std.specs.Prelude.{◌≡◌, ◌≢◌, ℕ, ◌+◌, ◌<◌,
 ghost use Rattle.criteria_model.specs.Criteria.{Criteria, IsModel};
 ghost use Rattle.criteria_model.specs.Classes.{IsClass};
 ghost use Rattle.criteria_model.specs.Worth.{increments as increments_of};
-ghost use Rattle.result_file.specs.Texts.{most_lines, end_line};
+ghost use Rattle.result_file.specs.Texts.{end_line};
 ghost use Rattle.result_file.specs.Claims.{Claim, answered, eliminated, pair_of};
 ghost use Rattle.result_file.specs.Checked.{begun};
 ghost use Rattle.result_file.specs.Contents.{of_claims};
@@ -19,9 +19,7 @@ use answer_rows::{Answer, Answers};
 use criteria_model::{Model, Pair};
 use farkas_check::flaw;
 use std::alloc::Global;
-
-/// The most claims of a file.
-const MOST_CLAIMS: u32 = 131_072;
+use survey_core::{Broken, MAX_EVENTS};
 
 /// A model, how many claims came, and the answers among them.
 #[derive(Drop)]
@@ -38,13 +36,21 @@ impl std::marker::Model for Claims {
     ghost use Rattle.criteria_model.specs.Criteria.{IsModel};
     ghost use Rattle.criteria_model.specs.Worth.{increments as increments_of};
     ghost use Rattle.criteria_model.specs.Pairs.{IsFit};
+    ghost use Rattle.survey_core.specs.declared.limits.TheConstants.{MAX_EVENTS};
     ghost use Rattle.result_file.specs.Kept.{KeptClaims};
 
     ghost Value = { KeptClaims };
 
     ghost view = { λ c. record { model = c.model; count = c.count; answers = c.answers.answers } };
 
-    ghost invariant = { λ c. IsModel c.model × (c.criteria ≡ length c.model.levels) × (c.increments ≡ increments_of c.model.levels) × (length c.answers.answers ≤ c.count) × (c.count ≤ 131072) × All (λ answer. IsFit c.model.levels answer.pair) c.answers.answers };
+    ghost invariant = { λ c. record {
+      model : IsModel c.model;
+      criteria : c.criteria ≡ length c.model.levels;
+      increments : c.increments ≡ increments_of c.model.levels;
+      answers : length c.answers.answers ≤ c.count;
+      few : c.count ≤ MAX_EVENTS;
+      fit : All (λ answer. IsFit c.model.levels answer.pair) c.answers.answers;
+    } };
 }
 
 impl Claims {
@@ -117,7 +123,7 @@ impl Claims {
             return Err(Stop::Wrong(part));
         }
         if let Some(flaw) = flaw(&self.model, &self.answers, combination, pair, *verdict) {
-            return Err(Stop::Wrong(Part::from(flaw)));
+            return Err(Stop::Wrong(Part::from(Broken::Flaw(flaw))));
         }
         self.count += 1;
         Ok(())
@@ -125,12 +131,12 @@ impl Claims {
 
     /// Whether there is room for a claim on the pair, and the pair is a class.
     fn judge(&self, pair: &Pair) -> Result<(), Part>
-        ensures room { OnOk result (self.now.count < most_lines) }
+        ensures room { OnOk result (self.now.count < MAX_EVENTS) }
         ensures class { OnOk result (IsClass self.now.model pair.now) }
         ensures failed { IfErr result (λ part. (claims : List Claim) (claim : Claim) →
             self.now.count ≡ length claims → pair_of claim ≡ pair.now → FailsAs self.now.model claims claim part) }
     {
-        if self.count >= MOST_CLAIMS {
+        if self.count >= MAX_EVENTS {
             return Err(Part::Limit);
         }
         if !self.model.is_class(pair) {

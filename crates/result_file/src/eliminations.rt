@@ -7,10 +7,8 @@ ghost use Rattle.result_file.specs.Eliminations.{Reads};
 use crate::line_fields::{combination, ranking};
 use criteria_model::{Pair, Side};
 use farkas_check::{Cite, Cites, Combination};
+use survey_core::MAX_WORKERS;
 use text_fields::Fields;
-
-/// The greatest number of an eliminator.
-const MOST_WORKERS: u8 = 16;
 
 /// What stands in a cell that holds no cite.
 const NO_CITE: Cite = Cite {
@@ -35,7 +33,7 @@ pub(crate) fn elimination_of(line: &[u8], criteria: usize, increments: usize) ->
 {
     let mut fields = Fields::of(line);
     fields.word(b"eliminate ")?;
-    let worker = fields.small_number(MOST_WORKERS)?;
+    let worker = fields.small_number(MAX_WORKERS)?;
     fields.word(b" ")?;
     let claim = ranking(&mut fields, criteria)?;
     fields.word(b" ")?;

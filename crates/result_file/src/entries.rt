@@ -10,13 +10,8 @@ ghost use Rattle.result_file.specs.Reading.{read_desk, read_numbers, read_vector
 use crate::eliminations::{Elimination, elimination_of};
 use crate::line_fields::{pair, side, weights};
 use criteria_model::{Pair, Side, Vector};
+use survey_core::{MAX_DESKS, MAX_EVENTS};
 use text_fields::Fields;
-
-/// The greatest number of a desk.
-const MOST_DESKS: u8 = 4;
-
-/// The greatest number of a question or of an answer.
-const MOST_NUMBER: u32 = 131_072;
 
 /// What a line of a result says: an event of a survey, which names its class by the pair. Desks count from 1 to 4,
 /// questions and answers from 1.
@@ -178,7 +173,7 @@ fn withdraw_of(line: &[u8]) -> Option<Entry>
 fn desk(fields: &mut Fields<'_>) -> Option<u8>
     ensures { ReadsAs result fields.new (read_desk fields.old) }
 {
-    let desk = fields.small_number(MOST_DESKS)?;
+    let desk = fields.small_number(MAX_DESKS)?;
     if desk == 0 {
         return None;
     }
@@ -192,7 +187,7 @@ fn numbers(fields: &mut Fields<'_>) -> Option<(u8, u32)>
 {
     let desk = desk(fields)?;
     fields.word(b" ")?;
-    let number = fields.number(MOST_NUMBER)?;
+    let number = fields.number(MAX_EVENTS)?;
     if number == 0 {
         return None;
     }

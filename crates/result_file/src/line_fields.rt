@@ -4,18 +4,11 @@ ghost use Rattle.text_fields.specs.Spelling.{IsCertificate};
 ghost use Rattle.text_fields.specs.Reading.{ReadsAs, ReadsListAs, read_list};
 ghost use Rattle.result_file.specs.Reading.{read_tuple, read_pair, read_side, read_ranking, read_answer, read_model, read_weights, read_cite, read_cites, read_combination};
 
-use criteria_model::{Answer, Pair, Side, Tuple, Vector};
+use crate::limits::MAX_MODEL_NUMBER;
+use criteria_model::{Answer, MAX_LEVEL, Pair, Side, Tuple, Vector};
 use farkas_check::Cite;
+use survey_core::MAX_EVENTS;
 use text_fields::Fields;
-
-/// The greatest number of a model line.
-const MOST_LEVELS: u32 = 999;
-
-/// The greatest number of a pair.
-const MOST_LEVEL: u8 = 25;
-
-/// The greatest number of an answer.
-const MOST_ANSWERS: u32 = 131_072;
 
 /// Reads the levels into the front of `cells`, and says how many there are and what the degree is.
 #[tactic(auto, unfolding(crate::specs::Reading::read_model))]
@@ -26,9 +19,9 @@ pub(crate) fn model_of(line: &[u8], cells: &mut [u32; 2048]) -> Option<(usize, u
 {
     let mut fields = Fields::of(line);
     fields.word(b"model ")?;
-    let count = fields.numbers(MOST_LEVELS, cells)?;
+    let count = fields.numbers(MAX_MODEL_NUMBER, cells)?;
     fields.word(b" degree ")?;
-    let degree = fields.number(MOST_LEVELS)?;
+    let degree = fields.number(MAX_MODEL_NUMBER)?;
     if !fields.is_empty() {
         return None;
     }
@@ -41,7 +34,7 @@ fn tuple(fields: &mut Fields<'_>, criteria: usize) -> Option<Tuple>
     ensures { ReadsAs result fields.new (read_tuple criteria fields.old) }
 {
     let mut cells = [0; 24];
-    let count = fields.small_numbers(MOST_LEVEL, &mut cells)?;
+    let count = fields.small_numbers(MAX_LEVEL, &mut cells)?;
     if count != criteria {
         return None;
     }
@@ -118,7 +111,7 @@ fn cite(fields: &mut Fields<'_>) -> Option<Cite>
     ensures exact { ReadsAs result fields.new (read_cite fields.old) }
     ensures weight { IfSome result (λ cite. IsCertificate cite.weight) }
 {
-    let answer = fields.number(MOST_ANSWERS)?;
+    let answer = fields.number(MAX_EVENTS)?;
     fields.word(b":")?;
     let weight = fields.certificate()?;
     Some(Cite { answer, weight })

@@ -1,13 +1,14 @@
 //! How far the lines of a file have come.
 ghost use Rattle.std.specs.Prelude.{◌≡◌, ◌≢◌, ◌↔◌, ℕ, ◌≤◌, List, length, IsTrue, IfOk, IfErr};
 ghost use Rattle.result_file.specs.declared.kinds.Kind.{Kind as FileKind};
-ghost use Rattle.result_file.specs.Texts.{longest_line, model_line, end_line};
+ghost use Rattle.result_file.specs.Texts.{model_line, end_line};
 ghost use Rattle.result_file.specs.Checked.{Stage, headed, Says, Fails};
 ghost use Rattle.result_file.specs.Progress.{IsAtStage, GoesOn, EndsAs};
 ghost use Rattle.result_file.specs.Stops.{StopsAt};
 
 use crate::bodies::Body;
 use crate::kinds::{Kind, kind_of};
+use crate::limits::MAX_LINE;
 use crate::line_fields::model_of;
 use crate::stops::Stop;
 use crate::verdicts::{Checked, Part};
@@ -33,7 +34,7 @@ pub(crate) enum Progress {
 impl Progress {
     /// The progress after one more line, or what stops the check there.
     pub(crate) fn next(self, alloc: Global, line: &[u8]) -> Result<Progress, Stop>
-        requires { length line.now ≤ longest_line }
+        requires { length line.now ≤ MAX_LINE }
         ensures next { IfOk result (λ progress. (lines : List (List ℕ)) (stage : Stage) →
             Says lines stage → IsAtStage self stage → GoesOn lines line.now progress) }
         ensures failed { IfErr result (λ stop. (stage : Stage) → IsAtStage self stage → StopsAt stage line.now stop) }
@@ -103,7 +104,7 @@ fn is_end(line: &[u8]) -> bool
 
 /// The model of the second line.
 fn begin(line: &[u8]) -> Result<Model, Part>
-    requires { length line.now ≤ longest_line }
+    requires { length line.now ≤ MAX_LINE }
     ensures spelled { IfOk result (λ model. line.now ≡ model_line model) }
     ensures failed { IfErr result (λ part. (kind : FileKind) → Fails (headed kind) line.now part) }
 {

@@ -1,7 +1,8 @@
 //! The events of a result, one after the other.
 ghost use Rattle.std.specs.Prelude.{◌≡◌, ◌≢◌, ◌↔◌, ◌+◌, ◌<◌, ◌≤◌, [], length, OnOk, IfOk, IfErr, MatchOption, IsTrue};
 ghost use Rattle.survey_core.specs.Laws.{RanksEachClass};
-ghost use Rattle.result_file.specs.Checked.{begun, Fails};
+ghost use Rattle.result_file.specs.Checked.{begun};
+ghost use Rattle.result_file.specs.Stops.{StopsAt};
 ghost use Rattle.result_file.specs.Contents.{of_events};
 ghost use Rattle.result_file.specs.Events.{Tells};
 ghost use Rattle.result_file.specs.Kept.{StartsSurvey, AddsEvent};
@@ -14,10 +15,7 @@ use crate::stops::Stop;
 use crate::verdicts::Part;
 use criteria_model::Model;
 use std::alloc::Global;
-use survey_core::{Core, Event};
-
-/// The most events of a file.
-const MOST_EVENTS: u32 = 131_072;
+use survey_core::{Core, Event, MAX_EVENTS};
 
 /// The history that the events of a result make.
 #[derive(Drop)]
@@ -34,13 +32,20 @@ impl std::marker::Model for Survey {
     ghost use Rattle.std.specs.Prelude.{◌≡◌, ◌≤◌, length};
     ghost use Rattle.criteria_model.specs.Worth.{increments as increments_of};
     ghost use Rattle.pair_enumeration.specs.Listed.{IsListed};
+    ghost use Rattle.survey_core.specs.declared.limits.TheConstants.{MAX_EVENTS};
     ghost use Rattle.result_file.specs.Kept.{KeptSurvey};
 
     ghost Value = { KeptSurvey };
 
     ghost view = { λ s. record { format = s.format; survey = s.core } };
 
-    ghost invariant = { λ s. IsListed s.core.listed × (s.criteria ≡ length s.core.listed.criteria.levels) × (s.increments ≡ increments_of s.core.listed.criteria.levels) × (s.count ≡ length s.core.history) × (s.count ≤ 131072) };
+    ghost invariant = { λ s. record {
+      listed : IsListed s.core.listed;
+      criteria : s.criteria ≡ length s.core.listed.criteria.levels;
+      increments : s.increments ≡ increments_of s.core.listed.criteria.levels;
+      count : s.count ≡ length s.core.history;
+      few : s.count ≤ MAX_EVENTS;
+    } };
 }
 
 impl Survey {
@@ -61,23 +66,23 @@ impl Survey {
         })
     }
 
-    /// Adds the event of a line, or says which part of the line is wrong.
-    pub(crate) fn add(&mut self, line: &[u8]) -> Result<(), Part>
+    /// Adds the event of a line, or says what stops the check there.
+    pub(crate) fn add(&mut self, line: &[u8]) -> Result<(), Stop>
         ensures added { OnOk result (AddsEvent self.old self.new line.now) }
-        ensures failed { IfErr result (λ part.
-            line.now ≢ end_line → Fails (begun (of_events self.old.format self.old.survey)) line.now part) }
+        ensures failed { IfErr result (λ stop.
+            line.now ≢ end_line → StopsAt (begun (of_events self.old.format self.old.survey)) line.now stop) }
     {
         let Some(entry) = entry_of(line, self.format, self.criteria, self.increments) else {
-            return Err(Part::Form);
+            return Err(Stop::Wrong(Part::Form));
         };
-        if self.count >= MOST_EVENTS {
-            return Err(Part::Limit);
+        if self.count >= MAX_EVENTS {
+            return Err(Stop::Wrong(Part::Limit));
         }
         let Some(event) = event_of(&self.core, &entry) else {
-            return Err(Part::Class);
+            return Err(Stop::Wrong(Part::Class));
         };
         if let Err(broken) = self.core.allowed(&event) {
-            return Err(Part::from(broken));
+            return Err(Stop::Wrong(Part::from(broken)));
         }
         self.core.apply(&event);
         self.count += 1;
@@ -98,36 +103,31 @@ fn event_of(core: &Core, entry: &Entry) -> Option<Event>
         (NamesNoClass core.now.listed.criteria entry.now)
         (λ event. Tells core.now.listed entry.now event) }
 {
-    match entry {
-        Entry::Eliminate(elimination) => {
-            let Elimination {
+    match *entry {
+        Entry::Eliminate(
+            Elimination {
                 worker,
                 pair,
                 verdict,
                 combination,
-            } = elimination;
-            let place = core.place(pair)?;
-            Some(Event::Eliminate {
-                worker: *worker,
-                place,
-                verdict: *verdict,
-                combination: *combination,
-            })
-        }
+            },
+        ) => Some(Event::Eliminate {
+            worker,
+            place: core.place(&pair)?,
+            verdict,
+            combination,
+        }),
         Entry::Issue {
             desk,
             pair,
             plus,
             minus,
-        } => {
-            let place = core.place(pair)?;
-            Some(Event::Issue {
-                desk: *desk,
-                place,
-                plus: *plus,
-                minus: *minus,
-            })
-        }
+        } => Some(Event::Issue {
+            desk,
+            place: core.place(&pair)?,
+            plus,
+            minus,
+        }),
         Entry::Commit {
             desk,
             question,
@@ -136,20 +136,14 @@ fn event_of(core: &Core, entry: &Entry) -> Option<Event>
             minus,
             point,
         } => Some(Event::Commit {
-            desk: *desk,
-            question: *question,
-            side: *side,
-            plus: *plus,
-            minus: *minus,
-            point: *point,
+            desk,
+            question,
+            side,
+            plus,
+            minus,
+            point,
         }),
-        Entry::Close { desk, question } => Some(Event::Close {
-            desk: *desk,
-            question: *question,
-        }),
-        Entry::Withdraw { desk, answer } => Some(Event::Withdraw {
-            desk: *desk,
-            answer: *answer,
-        }),
+        Entry::Close { desk, question } => Some(Event::Close { desk, question }),
+        Entry::Withdraw { desk, answer } => Some(Event::Withdraw { desk, answer }),
     }
 }

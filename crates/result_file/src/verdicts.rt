@@ -63,35 +63,22 @@ pub enum Part {
     Strict,
 }
 
-impl From<Flaw> for Part {
+impl From<Broken> for Part {
     ghost use Rattle.std.specs.Prelude.{◌≡◌};
     ghost use Rattle.result_file.specs.Parts.{part_of};
 
-    ghost from_gives = { λ flaw part. part ≡ part_of flaw };
-
-    fn from(flaw: Flaw) -> Part {
-        match flaw {
-            Flaw::Scale => Part::Scale,
-            Flaw::Increment => Part::Increment,
-            Flaw::Cite => Part::Cite,
-            Flaw::Weight => Part::Weight,
-            Flaw::Sum => Part::Sum,
-            Flaw::Strict => Part::Strict,
-        }
-    }
-}
-
-impl From<Broken> for Part {
-    ghost use Rattle.std.specs.Prelude.{◌≡◌};
-    ghost use Rattle.result_file.specs.Parts.{part_of_broken};
-
-    ghost from_gives = { λ broken part. part ≡ part_of_broken broken };
+    ghost from_gives = { λ broken part. part ≡ part_of broken };
 
     fn from(broken: Broken) -> Part {
         match broken {
             Broken::Class => Part::Class,
             Broken::Ranked => Part::Ranked,
-            Broken::Flaw(flaw) => Part::from(flaw),
+            Broken::Flaw(Flaw::Scale) => Part::Scale,
+            Broken::Flaw(Flaw::Increment) => Part::Increment,
+            Broken::Flaw(Flaw::Cite) => Part::Cite,
+            Broken::Flaw(Flaw::Weight) => Part::Weight,
+            Broken::Flaw(Flaw::Sum) => Part::Sum,
+            Broken::Flaw(Flaw::Strict) => Part::Strict,
             Broken::Asked => Part::Asked,
             Broken::Full => Part::Full,
             Broken::Earlier => Part::Earlier,

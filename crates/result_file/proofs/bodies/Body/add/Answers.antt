@@ -8,6 +8,8 @@ returns-in-Claims-clause-added c =
     (λ added content h. adds_claims c.in-Claims.claims c.add.new.self c.args.line.now added content (rw c.in-Claims.is at h))
     c.add.ensures.added
 
-pub returns-in-Ok-clause-added : goal.returns-in-Ok-clause-added
-returns-in-Ok-clause-added c = λ content h.
-    adds_events c.in-Survey.survey c.add-in-Survey.new.self c.args.line.now c.in-Ok.ensures.added content (rw c.in-Survey.is at h)
+pub returns-in-Survey-clause-added : goal.returns-in-Survey-clause-added
+returns-in-Survey-clause-added c =
+    on_ok_weaker c.add-in-Survey.result
+    (λ added content h. adds_events c.in-Survey.survey c.add-in-Survey.new.self c.args.line.now added content (rw c.in-Survey.is at h))
+    c.add-in-Survey.ensures.added

@@ -14,14 +14,15 @@ invariant_of-self-2 c =
     let count : c.self.inside.count ≡ c.args.self.now.count = ap (λ (k : KeptClaims). k.count) c.self.view_is in
     let answers : c.push.new.self.answers ≡ c.self.inside.answers.answers ++ c.args.answer ∷ [] =
     c.push.ensures.answers ∙ ap (λ (xs : List Answer). xs ++ c.args.answer ∷ []) c.grow.ensures.answers in
-    let class = c.in_default.ensures.class in (
-      c.self.invariant.0,
-      c.self.invariant.1,
-      c.self.invariant.2,
-      omega (arith, ap length answers, length-append c.self.inside.answers.answers (c.args.answer ∷ []), c.self.invariant.3),
-      omega (arith, c.in_default.ensures.room, count),
-      fits_more _ _ _ c.args.answer answers c.self.invariant.5 (rw (← model) at class.fits),
-    )
+    let class = c.in_default.ensures.class in
+    record {
+      model = c.self.invariant.model;
+      criteria = c.self.invariant.criteria;
+      increments = c.self.invariant.increments;
+      answers = omega (arith, ap length answers, length-append c.self.inside.answers.answers (c.args.answer ∷ []), c.self.invariant.answers);
+      few = omega (arith, c.in_default.ensures.room, count);
+      fit = fits_more _ _ _ c.args.answer answers c.self.invariant.fit (rw (← model) at class.fits);
+    }
 
 pub returns-clause-added : goal.returns-clause-added
 returns-clause-added c =
