@@ -53,7 +53,8 @@ put_behind before now text full line was is h =
     append_cancel_left text line full same
 
 -- what was written is some first bytes of a line
-front_written : (before now : Option (List ℕ)) (line : List ℕ) (wanted status : ℕ) → SaysComplete before now → Writes line wanted before now status → (n : ℕ) × (take n line ≡ verdict_line ValidComplete)
+front_written : (before now : Option (List ℕ)) (line : List ℕ) (wanted status : ℕ) → SaysComplete before now → Writes line wanted before now status
+    → (n : ℕ) × (take n line ≡ verdict_line ValidComplete)
 front_written before now line wanted status says writes =
     elim writes [
       | inl done ↦ (length line, take-length line ∙ put_behind before now says.0 (verdict_line ValidComplete) line says.1 says.2 done.1)

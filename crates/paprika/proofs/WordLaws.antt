@@ -6,7 +6,8 @@ use Rattle.std.specs.declared.alloc.Global.{Global}
 use Rattle.std.specs.Bool.{Decides}
 use Rattle.paprika.specs.Command.{IsCheck}
 
-pub one_word : (words : List (String Global)) (word : String Global) (same : Bool) → 1 ≤ length words → length words < 2 → word ≡ get_or words 0 word → Decides same (string_bytes word ≡ codes "check") → (IsTrue same → IsCheck words) × (IsCheck words → IsTrue same)
+pub one_word : (words : List (String Global)) (word : String Global) (same : Bool) → 1 ≤ length words → length words < 2 → word ≡ get_or words 0 word
+    → Decides same (string_bytes word ≡ codes "check") → (IsTrue same → IsCheck words) × (IsCheck words → IsTrue same)
 one_word [] word same low high is d = absurd (omega arith)
 one_word (w ∷ x ∷ words) word same low high is d = absurd (omega arith)
 one_word (w ∷ []) word same low high is d =

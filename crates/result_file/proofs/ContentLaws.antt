@@ -26,7 +26,8 @@ use Rattle.result_file.specs.Texts.{claim_line, end_line}
 -- ---- claims that grow
 
 -- a claim of a list with one more: the new one, or one of the list
-pushed : {X : Type 0} (xs : List X) (x : X) (before : List X) (y : X) (after : List X) → xs ++ x ∷ [] ≡ before ++ y ∷ after → ((before ≡ xs) × (y ≡ x)) ⊎ ((others : List X) × (xs ≡ before ++ y ∷ others))
+pushed : {X : Type 0} (xs : List X) (x : X) (before : List X) (y : X) (after : List X) → xs ++ x ∷ [] ≡ before ++ y ∷ after
+    → ((before ≡ xs) × (y ≡ x)) ⊎ ((others : List X) × (xs ≡ before ++ y ∷ others))
 pushed [] x [] y after e = inl (refl, cc)
 pushed [] x (b ∷ []) y after e = absurd cc
 pushed [] x (b ∷ c ∷ before) y after e = absurd cc
@@ -39,7 +40,8 @@ pushed (z ∷ xs) x (b ∷ before) y after e =
       | inr within ↦ inr (within.0, rw same (ap (λ w. b ∷ w) within.1))
     ]
 
-pub more_claims : (criteria : Criteria) (claims : List Claim) (claim : Claim) → AreClaims criteria claims → IsRight criteria claims claim → AreClaims criteria (claims ++ claim ∷ [])
+pub more_claims : (criteria : Criteria) (claims : List Claim) (claim : Claim) → AreClaims criteria claims → IsRight criteria claims claim
+    → AreClaims criteria (claims ++ claim ∷ [])
 more_claims criteria claims claim h right = record {
   model = h.model;
   each = λ before other after e. elim (pushed claims claim before other after e) [
@@ -57,7 +59,8 @@ no_claims criteria m = record { model = m; each = λ before claim after e. absur
 
 -- ---- bodies of claims
 
-pub starts_claims : (kept : KeptClaims) (criteria : Criteria) → IsModel criteria → KeepsClaims kept criteria [] → Starts (bodies.Claims kept) kinds.Claims criteria
+pub starts_claims : (kept : KeptClaims) (criteria : Criteria) → IsModel criteria → KeepsClaims kept criteria []
+    → Starts (bodies.Claims kept) kinds.Claims criteria
 starts_claims kept criteria m h = record {
   content = of_claims criteria [];
   kept = h;
@@ -67,7 +70,9 @@ starts_claims kept criteria m h = record {
   empty = refl;
 }
 
-pub adds_claims : (old new : KeptClaims) (line : List ℕ) → ((criteria : Criteria) (claims : List Claim) → KeepsClaims old criteria claims → AddsClaim new line criteria claims) → (content : Content) → Keeps (bodies.Claims old) content → Adds (bodies.Claims new) line content
+pub adds_claims : (old new : KeptClaims) (line : List ℕ)
+    → ((criteria : Criteria) (claims : List Claim) → KeepsClaims old criteria claims → AddsClaim new line criteria claims) → (content : Content)
+    → Keeps (bodies.Claims old) content → Adds (bodies.Claims new) line content
 adds_claims old new line added (of_claims criteria claims) h =
     let a = added criteria claims h in
     record {
@@ -78,13 +83,16 @@ adds_claims old new line added (of_claims criteria claims) h =
     }
 adds_claims old new line added (of_events format survey) h = absurd h
 
-pub stops_claims : (old : KeptClaims) (line : List ℕ) (stop : Stop) → ((criteria : Criteria) (claims : List Claim) → line ≢ end_line → KeepsClaims old criteria claims → StopsAt (begun (of_claims criteria claims)) line stop) → (content : Content) → line ≢ end_line → Keeps (bodies.Claims old) content → StopsAt (begun content) line stop
+pub stops_claims : (old : KeptClaims) (line : List ℕ) (stop : Stop)
+    → ((criteria : Criteria) (claims : List Claim) → line ≢ end_line → KeepsClaims old criteria claims → StopsAt (begun (of_claims criteria claims)) line stop)
+    → (content : Content) → line ≢ end_line → Keeps (bodies.Claims old) content → StopsAt (begun content) line stop
 stops_claims old line stop failed (of_claims criteria claims) no_end h = failed criteria claims no_end h
 stops_claims old line stop failed (of_events format survey) no_end h = absurd h
 
 -- ---- bodies of surveys
 
-pub starts_survey : (kept : KeptSurvey) (format : Format) (criteria : Criteria) → StartsSurvey kept format criteria → Starts (bodies.Survey kept) (kinds.Result format) criteria
+pub starts_survey : (kept : KeptSurvey) (format : Format) (criteria : Criteria) → StartsSurvey kept format criteria
+    → Starts (bodies.Survey kept) (kinds.Result format) criteria
 starts_survey kept format criteria h = record {
   content = of_events format kept.survey;
   kept = (h.same_format, refl);
@@ -101,7 +109,8 @@ starts_survey kept format criteria h = record {
     none : (k : ℕ) (event : Event) → slice_get {X = Event} [] k ≡ Some event → ⊥
     none k event at = cc
 
-pub adds_events : (old new : KeptSurvey) (line : List ℕ) → AddsEvent old new line → (content : Content) → Keeps (bodies.Survey old) content → Adds (bodies.Survey new) line content
+pub adds_events : (old new : KeptSurvey) (line : List ℕ) → AddsEvent old new line → (content : Content) → Keeps (bodies.Survey old) content
+    → Adds (bodies.Survey new) line content
 adds_events old new line a (of_claims criteria claims) h = absurd h
 adds_events old new line a (of_events format survey) h = record {
   next = of_events format new.survey;
@@ -112,7 +121,8 @@ adds_events old new line a (of_events format survey) h = record {
   lines = rw (a.history, a.same_listed, a.spelled, h.1, map_push (event_line survey.listed.classes) survey.history a.event) refl;
 }
 
-pub stops_events : (old : KeptSurvey) (line : List ℕ) (stop : Stop) → (line ≢ end_line → StopsAt (begun (of_events old.format old.survey)) line stop) → (content : Content)
+pub stops_events : (old : KeptSurvey) (line : List ℕ) (stop : Stop) → (line ≢ end_line → StopsAt (begun (of_events old.format old.survey)) line stop)
+    → (content : Content)
     → line ≢ end_line → Keeps (bodies.Survey old) content → StopsAt (begun content) line stop
 stops_events old line stop failed (of_claims criteria claims) no_end h = absurd h
 stops_events old line stop failed (of_events format survey) no_end h =
@@ -120,10 +130,12 @@ stops_events old line stop failed (of_events format survey) no_end h =
 
 -- ---- whole bodies
 
-pub whole_complete : (kept : KeptSurvey) → RanksEachClass kept.survey.listed kept.survey.history → (content : Content) → Keeps (bodies.Survey kept) content → IsCompleteContent content
+pub whole_complete : (kept : KeptSurvey) → RanksEachClass kept.survey.listed kept.survey.history → (content : Content)
+    → Keeps (bodies.Survey kept) content → IsCompleteContent content
 whole_complete kept complete (of_claims criteria claims) h = absurd h
 whole_complete kept complete (of_events format survey) h = subst (λ (s : Recorded). RanksEachClass s.listed s.history) h.1 complete
 
-pub whole_incomplete : (kept : KeptSurvey) → (¬ RanksEachClass kept.survey.listed kept.survey.history) → (content : Content) → Keeps (bodies.Survey kept) content → ¬ IsCompleteContent content
+pub whole_incomplete : (kept : KeptSurvey) → (¬ RanksEachClass kept.survey.listed kept.survey.history) → (content : Content)
+    → Keeps (bodies.Survey kept) content → ¬ IsCompleteContent content
 whole_incomplete kept incomplete (of_claims criteria claims) h complete = absurd h
 whole_incomplete kept incomplete (of_events format survey) h complete = incomplete (subst (λ (s : Recorded). RanksEachClass s.listed s.history) (sym h.1) complete)

@@ -17,7 +17,7 @@ use Rattle.pair_enumeration.specs.Listed.{Listed}
 use Rattle.pair_enumeration.proofs.ListLemmas.{listed_is_list}
 use Rattle.pair_enumeration.specs.Walks.{listed_classes}
 use Rattle.pair_enumeration.proofs.SearchLemmas.{contains_stands}
-use Rattle.pair_enumeration.specs.Places.{StandsAt}
+use Rattle.pair_enumeration.specs.Places.{class_at}
 use Rattle.criteria_model.specs.Classes.{IsClass}
 use Rattle.criteria_model.specs.declared.pairs.Pair.{Pair}
 use Rattle.farkas_check.specs.declared.flaws.Flaw.{Flaw}
@@ -134,7 +134,8 @@ claim_stops criteria claims lines line claim right whole stops form spelled =
       | inl room ↦ stops.fails Class (claim, form, spelled, (room, λ class. judged claim form spelled room class))
     ]
   where
-    adds : (claim : Claim) → HasForm criteria claim → line ≡ claim_line claim → length claims < MAX_EVENTS → IsClass criteria (pair_of claim) → Holds criteria claims claim → ⊥
+    adds : (claim : Claim) → HasForm criteria claim → line ≡ claim_line claim → length claims < MAX_EVENTS → IsClass criteria (pair_of claim)
+        → Holds criteria claims claim → ⊥
     adds claim form spelled room class holds =
         let is_right : IsRight criteria claims claim = record { form = form; room = room; class = class; proof = holds } in
         let pushed : lines_of (of_claims criteria (claims ++ claim ∷ [])) ≡ lines_of (of_claims criteria claims) ++ line ∷ [] =
@@ -190,7 +191,7 @@ entry_stops format survey lines line entry right whole stops form spelled =
         (λ lacked h. stops.fails (part_of lacked) (not_allowed lacked (part_of lacked) format survey line entry event form spelled room tells h refl))
         (λ may. adds event entry room form spelled tells may)
 
-    there : (pair : Pair) → IsClass survey.listed.criteria pair → (place : ℕ) × StandsAt survey.listed.classes place pair
+    there : (pair : Pair) → IsClass survey.listed.criteria pair → (place : ℕ) × (class_at survey.listed.classes place ≡ Some pair)
     there pair class = contains_stands survey.listed.classes pair ((right.listed.list.members pair).1 class)
 
     named : length survey.history < MAX_EVENTS → (entry : Entry) → HasEntryForm format survey.listed.criteria entry → line ≡ entry_line entry → ⊥
@@ -326,7 +327,8 @@ line_next text lines stage rest line after unbroken is later come none = elim (c
   })
 ]
 
-some_verdict : (fuel : ℕ) (text : List ℕ) (lines : List (List ℕ)) (stage : Stage) (rest : List ℕ) → length rest < fuel → HasCome text lines stage rest → HasNone text → ⊥
+some_verdict : (fuel : ℕ) (text : List ℕ) (lines : List (List ℕ)) (stage : Stage) (rest : List ℕ) → length rest < fuel
+    → HasCome text lines stage rest → HasNone text → ⊥
 some_verdict zero text lines stage rest short come none = absurd (omega arith)
 some_verdict (suc fuel) text lines stage rest short come none = elim (first_split rest) [
   | inl unbroken ↦ elim (cases_lt MAX_LINE (length rest)) [

@@ -114,11 +114,13 @@ pub record IsReadCombination (increments : ℕ) (combination : Combination) : Ty
   pub weights : IsExactly IsCertificate increments combination.increments
   pub cites : AreReadCites combination.answers
 
-pub weights_field : (increments : ℕ) → 1 ≤ increments → increments ≤ 24 → IsField (read_weights increments) (listed signed_decimal) (IsExactly IsCertificate increments) EndsSide
+pub weights_field : (increments : ℕ) → 1 ≤ increments → increments ≤ 24
+    → IsField (read_weights increments) (listed signed_decimal) (IsExactly IsCertificate increments) EndsSide
 unfolding read_weights
 weights_field increments low high = exactly_field read_certificate signed_decimal IsCertificate certificates_field increments low high
 
-combination_field : (increments : ℕ) → 1 ≤ increments → increments ≤ 24 → IsField (read_combination increments) combination_text (IsReadCombination increments) EndsSide
+combination_field : (increments : ℕ) → 1 ≤ increments → increments ≤ 24
+    → IsField (read_combination increments) combination_text (IsReadCombination increments) EndsSide
 unfolding read_combination
 combination_field increments low high = record {
   takes = λ text combination rest e.
@@ -154,7 +156,9 @@ pub record IsReadElimination (criteria increments : ℕ) (elimination : Eliminat
 abbrev ranking_of : Elimination → Answer
 ranking_of elimination = record { pair = elimination.pair; side = elimination.verdict }
 
-pub elimination_takes : (criteria increments : ℕ) (line : List ℕ) (elimination : Elimination) → 1 ≤ criteria → criteria ≤ 24 → 1 ≤ increments → increments ≤ 24 → read_elimination criteria increments line ≡ Some elimination → (line ≡ elimination_line elimination) × IsReadElimination criteria increments elimination
+pub elimination_takes : (criteria increments : ℕ) (line : List ℕ) (elimination : Elimination) → 1 ≤ criteria → criteria ≤ 24 → 1 ≤ increments
+    → increments ≤ 24 → read_elimination criteria increments line ≡ Some elimination
+    → (line ≡ elimination_line elimination) × IsReadElimination criteria increments elimination
 unfolding read_elimination
 elimination_takes criteria increments line elimination low high low' high' e =
     let w = bind_some (read_word (codes "eliminate ") line) _ elimination e in
@@ -176,7 +180,8 @@ elimination_takes criteria increments line elimination low high low' high' e =
     subst (λ (x : Elimination). (line ≡ elimination_line x) × IsReadElimination criteria increments x) end.1
     (line_is, record { worker = worker.1; pair = ranking.1; combination = combination.1 })
 
-pub elimination_again : (criteria increments : ℕ) (elimination : Elimination) → 1 ≤ criteria → criteria ≤ 24 → 1 ≤ increments → increments ≤ 24 → IsReadElimination criteria increments elimination → read_elimination criteria increments (elimination_line elimination) ≡ Some elimination
+pub elimination_again : (criteria increments : ℕ) (elimination : Elimination) → 1 ≤ criteria → criteria ≤ 24 → 1 ≤ increments → increments ≤ 24
+    → IsReadElimination criteria increments elimination → read_elimination criteria increments (elimination_line elimination) ≡ Some elimination
 unfolding read_elimination
 elimination_again criteria increments elimination low high low' high' h =
     let worker = (numbers_field 16 (lit< tt)).again elimination.worker (codes " " ++ (ranking_text (ranking_of elimination) ++ (codes " " ++ (combination_text elimination.combination ++ [])))) h.worker refl in

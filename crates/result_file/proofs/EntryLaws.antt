@@ -32,7 +32,8 @@ use Rattle.result_file.proofs.ClaimLaws.{is_small, pair_form, pair_read, elimina
 
 -- ---- fields that pass a test
 
-passing_field : {X : Type 0} (item : List ℕ → Option (X × List ℕ)) (spell : X → List ℕ) (P : X → Type 0) (Ends : List ℕ → Type 0) → IsField item spell P Ends → (test : X → Bool) → IsField (λ text. passing test (item text)) spell (λ x. P x × (test x ≡ true)) Ends
+passing_field : {X : Type 0} (item : List ℕ → Option (X × List ℕ)) (spell : X → List ℕ) (P : X → Type 0) (Ends : List ℕ → Type 0)
+    → IsField item spell P Ends → (test : X → Bool) → IsField (λ text. passing test (item text)) spell (λ x. P x × (test x ≡ true)) Ends
 passing_field {X} item spell P Ends field test = record {
   takes = λ text x rest e.
       let b = bind_some (item text) (λ found. cond (test found.0) (Some found) None) (x, rest) e in
@@ -110,7 +111,8 @@ vector_field criteria m =
     }
 
 -- the two vectors that open a pair
-vectors_field : (criteria : Criteria) → IsModel criteria → IsField (read_vectors (increments criteria.levels)) (λ found. vectors_text found.0 found.1) (λ found. HasVectorForm criteria found.0 × HasVectorForm criteria found.1) EndsSide
+vectors_field : (criteria : Criteria) → IsModel criteria
+    → IsField (read_vectors (increments criteria.levels)) (λ found. vectors_text found.0 found.1) (λ found. HasVectorForm criteria found.0 × HasVectorForm criteria found.1) EndsSide
 unfolding read_vectors
 vectors_field criteria m = record {
   takes = λ text found rest e.
@@ -136,7 +138,8 @@ vectors_field criteria m = record {
 abbrev Spells : Format → Criteria → List ℕ → Entry → Type 0
 Spells format criteria line entry = (line ≡ entry_line entry) × HasEntryForm format criteria entry
 
-issue_takes : (format : Format) (criteria : Criteria) (line : List ℕ) (entry : Entry) → IsModel criteria → read_issue (length criteria.levels) (increments criteria.levels) line ≡ Some entry → Spells format criteria line entry
+issue_takes : (format : Format) (criteria : Criteria) (line : List ℕ) (entry : Entry) → IsModel criteria
+    → read_issue (length criteria.levels) (increments criteria.levels) line ≡ Some entry → Spells format criteria line entry
 unfolding read_issue
 issue_takes format criteria line entry m e =
     let s = is_small criteria m in
@@ -158,7 +161,9 @@ issue_takes format criteria line entry m e =
     let line_is : line ≡ entry_line found = whole ∙ rw end.0 (append-nil _) in
     subst (Spells format criteria line) end.1 (line_is, (desk.1, pair_form criteria p.0.0 pair.1, vectors.1.0, vectors.1.1))
 
-issue_again : (criteria : Criteria) (desk : ℕ) (pair : Pair) (plus minus : List ℤ) → IsModel criteria → HasDeskForm desk → HasPairForm criteria pair → HasVectorForm criteria plus → HasVectorForm criteria minus → read_issue (length criteria.levels) (increments criteria.levels) (issue_line desk pair plus minus) ≡ Some (Issue desk pair plus minus)
+issue_again : (criteria : Criteria) (desk : ℕ) (pair : Pair) (plus minus : List ℤ) → IsModel criteria → HasDeskForm desk → HasPairForm criteria pair
+    → HasVectorForm criteria plus → HasVectorForm criteria minus
+    → read_issue (length criteria.levels) (increments criteria.levels) (issue_line desk pair plus minus) ≡ Some (Issue desk pair plus minus)
 unfolding read_issue
 issue_again criteria desk pair plus minus m desk_form pair_has plus_form minus_form =
     let s = is_small criteria m in
@@ -168,10 +173,12 @@ issue_again criteria desk pair plus minus m desk_form pair_has plus_form minus_f
     let v = (vectors_field criteria m).again (plus, minus) [] (plus_form, minus_form) (tt, refl) in
     ap (read_issue (length criteria.levels) (increments criteria.levels)) (sym (append-nil (issue_line desk pair plus minus)) ∙ sym (regroup6 (codes "issue ") (decimal desk) (codes " ") (pair_text pair) (codes " ") (vectors_text plus minus) [])) ∙ rw (d, p, v) refl
 
-regroup8 : {X : Type 0} (a b c d e f g h t : List X) → a ++ (b ++ (c ++ (d ++ (e ++ (f ++ (g ++ (h ++ t))))))) ≡ (((((((a ++ b) ++ c) ++ d) ++ e) ++ f) ++ g) ++ h) ++ t
+regroup8 : {X : Type 0} (a b c d e f g h t : List X)
+    → a ++ (b ++ (c ++ (d ++ (e ++ (f ++ (g ++ (h ++ t))))))) ≡ (((((((a ++ b) ++ c) ++ d) ++ e) ++ f) ++ g) ++ h) ++ t
 regroup8 a b c d e f g h t = regroup6 a b c d e f (g ++ (h ++ t)) ∙ regroup3 (((((a ++ b) ++ c) ++ d) ++ e) ++ f) g h t
 
-commit_takes : (format : Format) (criteria : Criteria) (line : List ℕ) (entry : Entry) → IsModel criteria → read_commit (increments criteria.levels) line ≡ Some entry → Spells format criteria line entry
+commit_takes : (format : Format) (criteria : Criteria) (line : List ℕ) (entry : Entry) → IsModel criteria
+    → read_commit (increments criteria.levels) line ≡ Some entry → Spells format criteria line entry
 unfolding read_commit
 commit_takes format criteria line entry m e =
     let count : ℕ = increments criteria.levels in
@@ -199,7 +206,9 @@ commit_takes format criteria line entry m e =
     let line_is : line ≡ entry_line found = whole ∙ rw end.0 (append-nil _) in
     subst (Spells format criteria line) end.1 (line_is, (numbers.1.0, numbers.1.1, vectors.1.0, vectors.1.1, point.1))
 
-commit_again : (criteria : Criteria) (desk question : ℕ) (side : Side) (plus minus point : List ℤ) → IsModel criteria → HasDeskForm desk → HasNumberForm question → HasVectorForm criteria plus → HasVectorForm criteria minus → HasVectorForm criteria point → read_commit (increments criteria.levels) (commit_line desk question side plus minus point) ≡ Some (Commit desk question side plus minus point)
+commit_again : (criteria : Criteria) (desk question : ℕ) (side : Side) (plus minus point : List ℤ) → IsModel criteria → HasDeskForm desk
+    → HasNumberForm question → HasVectorForm criteria plus → HasVectorForm criteria minus → HasVectorForm criteria point
+    → read_commit (increments criteria.levels) (commit_line desk question side plus minus point) ≡ Some (Commit desk question side plus minus point)
 unfolding read_commit
 commit_again criteria desk question side plus minus point m desk_form question_form plus_form minus_form point_form =
     let behind_vectors : List ℕ = codes " " ++ (vector_text point ++ []) in
@@ -248,13 +257,15 @@ withdraw_again desk answer desk_form answer_form =
     let n = desk_number_field.again (desk, answer) [] (desk_form, answer_form) tt in
     ap read_withdraw (sym (append-nil (withdraw_line desk answer)) ∙ append_assoc (codes "withdraw ") (numbers_text desk answer) []) ∙ rw n refl
 
-withdrawal_takes : (format : Format) (criteria : Criteria) (line : List ℕ) (entry : Entry) → withdrawal_in format line ≡ Some entry → Spells format criteria line entry
+withdrawal_takes : (format : Format) (criteria : Criteria) (line : List ℕ) (entry : Entry) → withdrawal_in format line ≡ Some entry
+    → Spells format criteria line entry
 withdrawal_takes One criteria line entry e = absurd cc
 withdrawal_takes Two criteria line entry e = withdraw_takes criteria line entry e
 
 -- ---- the contract of the reader
 
-step_takes : (format : Format) (criteria : Criteria) (line : List ℕ) (entry : Entry) → IsModel criteria → read_step format (length criteria.levels) (increments criteria.levels) line ≡ Some entry → Spells format criteria line entry
+step_takes : (format : Format) (criteria : Criteria) (line : List ℕ) (entry : Entry) → IsModel criteria
+    → read_step format (length criteria.levels) (increments criteria.levels) line ≡ Some entry → Spells format criteria line entry
 unfolding read_step
 step_takes format criteria line entry m e =
     elim (or_else_some (read_issue (length criteria.levels) (increments criteria.levels) line) _ entry e) [
@@ -273,7 +284,8 @@ abbrev pub IsStep : Entry → Type 0
 IsStep (Eliminate e) = ⊥
 IsStep _ = Unit {0}
 
-step_again : (format : Format) (criteria : Criteria) (entry : Entry) → IsModel criteria → HasEntryForm format criteria entry → IsStep entry → read_step format (length criteria.levels) (increments criteria.levels) (entry_line entry) ≡ Some entry
+step_again : (format : Format) (criteria : Criteria) (entry : Entry) → IsModel criteria → HasEntryForm format criteria entry → IsStep entry
+    → read_step format (length criteria.levels) (increments criteria.levels) (entry_line entry) ≡ Some entry
 unfolding read_step read_issue read_commit read_close
 step_again format criteria (Eliminate e) m form step = absurd step
 step_again format criteria (Issue desk pair plus minus) m form step =
@@ -302,7 +314,9 @@ not_both None x some none = absurd cc
 not_both (Some y) x some none = absurd cc
 
 -- an eliminate line was read
-pub reads_elimination : (format : Format) (criteria : Criteria) (line : List ℕ) (e : Elimination) → IsModel criteria → read_elimination (length criteria.levels) (increments criteria.levels) line ≡ Some e → AreCites e.combination.answers → ReadsEntry format criteria line (Some (Eliminate e))
+pub reads_elimination : (format : Format) (criteria : Criteria) (line : List ℕ) (e : Elimination) → IsModel criteria
+    → read_elimination (length criteria.levels) (increments criteria.levels) line ≡ Some e → AreCites e.combination.answers
+    → ReadsEntry format criteria line (Some (Eliminate e))
 reads_elimination format criteria line e m read cites = record {
   sound = elimination_line_takes criteria line e m read cites;
   complete = complete;
@@ -319,13 +333,16 @@ reads_elimination format criteria line e m read cites = record {
     complete entry spelled form = absurd (none entry spelled tt)
 
 -- no eliminate line was read
-pub reads_step : (format : Format) (criteria : Criteria) (line : List ℕ) → IsModel criteria → Reads None (read_elimination (length criteria.levels) (increments criteria.levels) line) → ReadsEntry format criteria line (read_step format (length criteria.levels) (increments criteria.levels) line)
+pub reads_step : (format : Format) (criteria : Criteria) (line : List ℕ) → IsModel criteria
+    → Reads None (read_elimination (length criteria.levels) (increments criteria.levels) line)
+    → ReadsEntry format criteria line (read_step format (length criteria.levels) (increments criteria.levels) line)
 reads_step format criteria line m no_elimination = record {
   sound = if_some _ _ (λ entry e. step_takes format criteria line entry m e);
   complete = complete;
 }
   where
-    complete : (entry : Entry) → line ≡ entry_line entry → HasEntryForm format criteria entry → read_step format (length criteria.levels) (increments criteria.levels) line ≡ Some entry
+    complete : (entry : Entry) → line ≡ entry_line entry → HasEntryForm format criteria entry
+        → read_step format (length criteria.levels) (increments criteria.levels) line ≡ Some entry
     complete (Eliminate e) spelled form =
         absurd (no_elimination e (rw spelled (elimination_line_again criteria e m form)) form.combination.cites)
     complete entry spelled form = rw spelled (step_again format criteria entry m form tt)
@@ -333,7 +350,8 @@ reads_step format criteria line m no_elimination = record {
 -- ---- what a file's reader needs besides
 
 -- where nothing was read, the line is that of no entry
-pub no_entry : (format : Format) (criteria : Criteria) (line : List ℕ) → ReadsEntry format criteria line None → (entry : Entry) → HasEntryForm format criteria entry → line ≢ entry_line entry
+pub no_entry : (format : Format) (criteria : Criteria) (line : List ℕ) → ReadsEntry format criteria line None → (entry : Entry)
+    → HasEntryForm format criteria entry → line ≢ entry_line entry
 no_entry format criteria line reads entry form spelled = not_both None entry (reads.complete entry spelled form) refl
 
 -- no entry has the end line

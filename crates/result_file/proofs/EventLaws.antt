@@ -40,7 +40,8 @@ stands_read classes place pair at = rw at refl
 
 -- ---- an entry's event
 
-told_is_event : (format : Format) (listed : Listed) (event : Event) → HasEntryForm format listed.criteria (as_entry listed.classes event) → IsEvent listed.criteria.levels event
+told_is_event : (format : Format) (listed : Listed) (event : Event) → HasEntryForm format listed.criteria (as_entry listed.classes event)
+    → IsEvent listed.criteria.levels event
 told_is_event format listed (events.Eliminate worker place verdict combination) h = (h.worker, h.combination.len, h.combination.scale)
 told_is_event format listed (events.Issue desk place plus minus) h = (h.0, h.2.values, h.3.values)
 told_is_event format listed (events.Commit desk question side plus minus point) h = (h.0, h.2.values, h.3.values, h.4.values)
@@ -48,18 +49,23 @@ told_is_event format listed (events.Close desk question) h = h.0
 told_is_event One listed (events.Withdraw desk answer) h = absurd h
 told_is_event Two listed (events.Withdraw desk answer) h = h.0
 
-pub is_event : (format : Format) (listed : Listed) (entry : Entry) (event : Event) → HasEntryForm format listed.criteria entry → Tells listed entry event → IsEvent listed.criteria.levels event
+pub is_event : (format : Format) (listed : Listed) (entry : Entry) (event : Event) → HasEntryForm format listed.criteria entry
+    → Tells listed entry event → IsEvent listed.criteria.levels event
 is_event format listed entry event form tells = told_is_event format listed event (rw tells.told at form)
 
 -- ---- a line that fails
 
-pub no_entry : (format : Format) (survey : Recorded) (line : List ℕ) → ReadsEntry format survey.listed.criteria line None → line ≢ end_line → Fails (begun (of_events format survey)) line Form
+pub no_entry : (format : Format) (survey : Recorded) (line : List ℕ) → ReadsEntry format survey.listed.criteria line None → line ≢ end_line
+    → Fails (begun (of_events format survey)) line Form
 no_entry format survey line reads no_end = (no_end, λ entry form spelled. let e = reads.complete entry spelled form in absurd cc)
 
-pub over_limit : (format : Format) (survey : Recorded) (line : List ℕ) (entry : Entry) → HasEntryForm format survey.listed.criteria entry → line ≡ entry_line entry → MAX_EVENTS ≤ length survey.history → Fails (begun (of_events format survey)) line Limit
+pub over_limit : (format : Format) (survey : Recorded) (line : List ℕ) (entry : Entry) → HasEntryForm format survey.listed.criteria entry
+    → line ≡ entry_line entry → MAX_EVENTS ≤ length survey.history → Fails (begun (of_events format survey)) line Limit
 over_limit format survey line entry form spelled many = (entry, form, spelled, many)
 
-pub no_class : (format : Format) (survey : Recorded) (line : List ℕ) (entry : Entry) → HasEntryForm format survey.listed.criteria entry → line ≡ entry_line entry → length survey.history < MAX_EVENTS → NamesNoClass survey.listed.criteria entry → Fails (begun (of_events format survey)) line Class
+pub no_class : (format : Format) (survey : Recorded) (line : List ℕ) (entry : Entry) → HasEntryForm format survey.listed.criteria entry
+    → line ≡ entry_line entry → length survey.history < MAX_EVENTS → NamesNoClass survey.listed.criteria entry
+    → Fails (begun (of_events format survey)) line Class
 no_class format survey line entry form spelled room none = (entry, form, spelled, (room, none))
 
 -- an event that names its class doesn't lack it
@@ -72,7 +78,8 @@ has_class survey (events.Commit desk question side plus minus point) named fails
 has_class survey (events.Close desk question) named fails = close_has_no_class survey.history question fails
 has_class survey (events.Withdraw desk answer) named fails = withdraw_has_no_class survey.listed survey.history answer fails
 
-breaks : (lacked : Broken) (survey : Recorded) (entry : Entry) (event : Event) → length survey.history < MAX_EVENTS → Tells survey.listed entry event → FailsFirst survey.listed survey.history event lacked → EntryFailsAs survey entry (part_of lacked)
+breaks : (lacked : Broken) (survey : Recorded) (entry : Entry) (event : Event) → length survey.history < MAX_EVENTS → Tells survey.listed entry event
+    → FailsFirst survey.listed survey.history event lacked → EntryFailsAs survey entry (part_of lacked)
 breaks broken.Class survey entry event room tells fails = absurd (has_class survey event tells.class fails)
 breaks broken.Ranked survey entry event room tells fails = (room, record { event = event; broken = broken.Ranked; tells = tells; fails = fails; named = refl })
 breaks (broken.Flaw flaws.Scale) survey entry event room tells fails = (room, record { event = event; broken = broken.Flaw flaws.Scale; tells = tells; fails = fails; named = refl })
@@ -91,17 +98,24 @@ breaks broken.Unranked survey entry event room tells fails = (room, record { eve
 breaks broken.Nothing survey entry event room tells fails = (room, record { event = event; broken = broken.Nothing; tells = tells; fails = fails; named = refl })
 breaks broken.Spent survey entry event room tells fails = (room, record { event = event; broken = broken.Spent; tells = tells; fails = fails; named = refl })
 
-wrong_part : (part : Part) (format : Format) (survey : Recorded) (line : List ℕ) (entry : Entry) → HasEntryForm format survey.listed.criteria entry → line ≡ entry_line entry → EntryFailsAs survey entry part → Fails (begun (of_events format survey)) line part
+wrong_part : (part : Part) (format : Format) (survey : Recorded) (line : List ℕ) (entry : Entry) → HasEntryForm format survey.listed.criteria entry
+    → line ≡ entry_line entry → EntryFailsAs survey entry part → Fails (begun (of_events format survey)) line part
 wrong_part Form format survey line entry form spelled h = absurd h
 wrong_part part format survey line entry form spelled h = (entry, form, spelled, h)
 
-pub not_allowed : (lacked : Broken) (part : Part) (format : Format) (survey : Recorded) (line : List ℕ) (entry : Entry) (event : Event) → HasEntryForm format survey.listed.criteria entry → line ≡ entry_line entry → length survey.history < MAX_EVENTS → Tells survey.listed entry event → FailsFirst survey.listed survey.history event lacked → part ≡ part_of lacked → Fails (begun (of_events format survey)) line part
+pub not_allowed : (lacked : Broken) (part : Part) (format : Format) (survey : Recorded) (line : List ℕ) (entry : Entry) (event : Event)
+    → HasEntryForm format survey.listed.criteria entry → line ≡ entry_line entry → length survey.history < MAX_EVENTS
+    → Tells survey.listed entry event → FailsFirst survey.listed survey.history event lacked → part ≡ part_of lacked
+    → Fails (begun (of_events format survey)) line part
 not_allowed lacked part format survey line entry event form spelled room tells fails is =
     wrong_part part format survey line entry form spelled (rw is (breaks lacked survey entry event room tells fails))
 
 -- ---- a line that is right
 
-pub adds_event : (old new : KeptSurvey) (line : List ℕ) (entry : Entry) (event : Event) → HasEntryForm old.format old.survey.listed.criteria entry → line ≡ entry_line entry → length old.survey.history < MAX_EVENTS → Tells old.survey.listed entry event → new.format ≡ old.format → new.survey.listed ≡ old.survey.listed → new.survey.history ≡ old.survey.history ++ event ∷ [] → IsLegal new.survey.listed new.survey.history → AddsEvent old new line
+pub adds_event : (old new : KeptSurvey) (line : List ℕ) (entry : Entry) (event : Event) → HasEntryForm old.format old.survey.listed.criteria entry
+    → line ≡ entry_line entry → length old.survey.history < MAX_EVENTS → Tells old.survey.listed entry event → new.format ≡ old.format
+    → new.survey.listed ≡ old.survey.listed → new.survey.history ≡ old.survey.history ++ event ∷ [] → IsLegal new.survey.listed new.survey.history
+    → AddsEvent old new line
 adds_event old new line entry event form spelled room tells format listed history legal = record {
   event = event;
   same_format = format;

@@ -1,5 +1,5 @@
 -- What an event's line says is said of one event.
-use Rattle.std.proofs.Common.{◌≡◌, ℕ, ◌-◌, List, refl, sym, ap, subst, ◌∙◌, arith, Some, slice_get}
+use Rattle.std.proofs.Common.{◌≡◌, ℕ, ◌-◌, List, refl, sym, ap, ◌∙◌, arith, Some, slice_get}
 use Rattle.criteria_model.specs.declared.pairs.Pair.{Pair}
 use Rattle.criteria_model.specs.Classes.{IsClass}
 use Rattle.pair_enumeration.specs.Listed.{Listed, IsListed}

@@ -86,12 +86,14 @@ fails_entry survey entry part h = inr (inr h)
 
 -- ---- a claim
 
-flaw_once : (criteria : Criteria) (before : List Claim) (claim : Claim) (one other : Part) → HasFlaw criteria before claim one → HasFlaw criteria before claim other → one ≡ other
+flaw_once : (criteria : Criteria) (before : List Claim) (claim : Claim) (one other : Part) → HasFlaw criteria before claim one
+    → HasFlaw criteria before claim other → one ≡ other
 flaw_once criteria before (answered a) one other h k = absurd h
 flaw_once criteria before (eliminated e) one other h k =
     h.1 ∙ ap (λ (flaw : Flaw). part_of (broken.Flaw flaw)) (first_flaw_once criteria.levels (answers_of before) e.combination e.pair e.verdict h.0 k.0 h.2 k.2) ∙ sym k.1
 
-claim_fails_once : (criteria : Criteria) (before : List Claim) (claim : Claim) (one other : Part) → FailsAs criteria before claim one → FailsAs criteria before claim other → one ≡ other
+claim_fails_once : (criteria : Criteria) (before : List Claim) (claim : Claim) (one other : Part) → FailsAs criteria before claim one
+    → FailsAs criteria before claim other → one ≡ other
 claim_fails_once criteria before claim one other h k =
     elim (fails_claim criteria before claim one h) [
       | inl limit ↦ elim (fails_claim criteria before claim other k) [
@@ -110,12 +112,14 @@ claim_fails_once criteria before claim one other h k =
       ]
     ]
 
-right_has_no_flaw : (criteria : Criteria) (before : List Claim) (claim : Claim) (part : Part) → IsRight criteria before claim → ¬ HasFlaw criteria before claim part
+right_has_no_flaw : (criteria : Criteria) (before : List Claim) (claim : Claim) (part : Part) → IsRight criteria before claim
+    → ¬ HasFlaw criteria before claim part
 right_has_no_flaw criteria before (answered a) part right h = h
 right_has_no_flaw criteria before (eliminated e) part right h =
     proved_has_no_flaw criteria.levels (answers_of before) e.combination e.pair e.verdict h.0 right.proof h.2
 
-right_claim_holds : (criteria : Criteria) (before : List Claim) (claim : Claim) (part : Part) → IsRight criteria before claim → ¬ FailsAs criteria before claim part
+right_claim_holds : (criteria : Criteria) (before : List Claim) (claim : Claim) (part : Part) → IsRight criteria before claim
+    → ¬ FailsAs criteria before claim part
 right_claim_holds criteria before claim part right h =
     elim (fails_claim criteria before claim part h) [
       | inl limit ↦ omega (arith, limit.1, right.room)
@@ -132,7 +136,8 @@ tells_a_class listed (events.Commit desk question side plus minus point) list na
 tells_a_class listed (events.Close desk question) list named none = none
 tells_a_class listed (events.Withdraw desk answer) list named none = none
 
-breaks_names : (survey : Recorded) (entry : Entry) (part : Part) → IsListed survey.listed → BreaksRule survey entry part → ¬ NamesNoClass survey.listed.criteria entry
+breaks_names : (survey : Recorded) (entry : Entry) (part : Part) → IsListed survey.listed → BreaksRule survey entry part
+    → ¬ NamesNoClass survey.listed.criteria entry
 breaks_names survey entry part list breaks none =
     tells_a_class survey.listed breaks.event list breaks.tells.class
     (subst (λ (e : Entry). NamesNoClass survey.listed.criteria e) breaks.tells.told none)
@@ -140,7 +145,8 @@ breaks_names survey entry part list breaks none =
 tells_once : (listed : Listed) (entry : Entry) (one other : Event) → IsListed listed → Tells listed entry one → Tells listed entry other → one ≡ other
 tells_once listed entry one other list h k = event_once listed one other list h.class k.class (sym h.told ∙ k.told)
 
-breaks_once : (survey : Recorded) (entry : Entry) (one other : Part) → IsListed survey.listed → BreaksRule survey entry one → BreaksRule survey entry other → one ≡ other
+breaks_once : (survey : Recorded) (entry : Entry) (one other : Part) → IsListed survey.listed → BreaksRule survey entry one
+    → BreaksRule survey entry other → one ≡ other
 breaks_once survey entry one other list h k =
     let same : h.event ≡ k.event = tells_once survey.listed entry h.event k.event list h.tells k.tells in
     let parts : h.broken ≡ k.broken =
@@ -148,7 +154,8 @@ breaks_once survey entry one other list h k =
     (subst (λ (event : Event). FailsFirst survey.listed survey.history event h.broken) same h.fails) k.fails in
     h.named ∙ ap part_of parts ∙ sym k.named
 
-entry_fails_once : (survey : Recorded) (entry : Entry) (one other : Part) → IsListed survey.listed → EntryFailsAs survey entry one → EntryFailsAs survey entry other → one ≡ other
+entry_fails_once : (survey : Recorded) (entry : Entry) (one other : Part) → IsListed survey.listed → EntryFailsAs survey entry one
+    → EntryFailsAs survey entry other → one ≡ other
 entry_fails_once survey entry one other list h k =
     elim (fails_entry survey entry one h) [
       | inl limit ↦ elim (fails_entry survey entry other k) [
@@ -303,7 +310,8 @@ has_form_of_wrong : (content : Content) (line : List ℕ) (part : Part) → HasW
 has_form_of_wrong (of_claims criteria claims) line part wrong none = none wrong.0 wrong.1 wrong.2
 has_form_of_wrong (of_events format survey) line part wrong none = none wrong.0 wrong.1 wrong.2
 
-wrong_once : (content : Content) (line : List ℕ) (one other : Part) → IsRightContent content → HasWrongPart content line one → HasWrongPart content line other → one ≡ other
+wrong_once : (content : Content) (line : List ℕ) (one other : Part) → IsRightContent content → HasWrongPart content line one
+    → HasWrongPart content line other → one ≡ other
 wrong_once (of_claims criteria claims) line one other right h k =
     let same : h.0 ≡ k.0 = claim_line_once criteria h.0 k.0 right.model h.1 k.1 (sym h.2 ∙ k.2) in
     claim_fails_once criteria claims k.0 one other (subst (λ (claim : Claim). FailsAs criteria claims claim one) same h.3) k.3
@@ -312,7 +320,8 @@ wrong_once (of_events format survey) line one other right h k =
     entry_fails_once survey k.0 one other right.listed (subst (λ (entry : Entry). EntryFailsAs survey entry one) same h.3) k.3
 
 -- the first wrong part of a line after a stage is one
-pub fails_once : (lines : List (List ℕ)) (stage : Stage) (line : List ℕ) (one other : Part) → Says lines stage → Fails stage line one → Fails stage line other → one ≡ other
+pub fails_once : (lines : List (List ℕ)) (stage : Stage) (line : List ℕ) (one other : Part) → Says lines stage → Fails stage line one
+    → Fails stage line other → one ≡ other
 fails_once lines blank line one other says h k = (fails_blank line one h).0 ∙ sym (fails_blank line other k).0
 fails_once lines (headed kind) line one other says h k =
     elim (fails_headed kind line one h) [

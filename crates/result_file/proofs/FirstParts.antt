@@ -18,11 +18,11 @@ use Rattle.survey_core.specs.declared.events.Event.TheVariants as events
 use Rattle.survey_core.specs.Histories.{class_at, committed}
 use Rattle.survey_core.specs.Legal.{IsEvent, MayFollow, FailsFirst, eliminate_parts, issue_parts, commit_parts, close_parts, withdraw_parts}
 use Rattle.survey_core.specs.Parts.{Part, part, AllHold, FirstFails}
-use Rattle.survey_core.proofs.ItemLemmas.{item_of}
-use Rattle.survey_core.proofs.ListSteps.{slice_get_inside}
+use Rattle.row_laws.proofs.ItemLemmas.{item_of, slice_get_inside}
 
 -- a combination of the right length that proves no verdict has a first flaw
-pub some_flaw : (levels : List ℕ) (answers : List Answer) (combination : Combination) (pair : Pair) (side : Side) → length combination.increments ≡ increments levels
+pub some_flaw : (levels : List ℕ) (answers : List Answer) (combination : Combination) (pair : Pair) (side : Side)
+    → length combination.increments ≡ increments levels
     → ((flaw : Flaw) → ¬ IsFirstFlaw levels answers combination pair side (Some flaw)) → ¬ (Proves levels answers combination pair side) → ⊥
 some_flaw levels answers combination pair side len none not_proved =
     none flaws.Scale (λ scale. none flaws.Increment (

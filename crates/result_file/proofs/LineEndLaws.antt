@@ -51,7 +51,8 @@ signed_unbroken : (z : ℤ) → IsCertificate z → is_unbroken (signed_decimal 
 signed_unbroken (pos n) h = decimal_unbroken n (omega (arith, h))
 signed_unbroken (negsuc n) h = decimal_unbroken (suc n) (omega (arith, h))
 
-others_unbroken : {X : Type 0} (spell : X → List ℕ) (xs : List X) → All (λ x. is_unbroken (spell x) ≡ true) xs → is_unbroken (flat_map (λ y. 0x2C ∷ spell y) xs) ≡ true
+others_unbroken : {X : Type 0} (spell : X → List ℕ) (xs : List X) → All (λ x. is_unbroken (spell x) ≡ true) xs
+    → is_unbroken (flat_map (λ y. 0x2C ∷ spell y) xs) ≡ true
 others_unbroken spell [] h = refl
 others_unbroken spell (x ∷ xs) h =
     let first = h 0 x (omega arith) in
@@ -73,7 +74,8 @@ two_unbroken a b p q = simp (list_all-append, p, q) refl
 three_unbroken : (a b c : List ℕ) → is_unbroken a ≡ true → is_unbroken b ≡ true → is_unbroken c ≡ true → is_unbroken (a ++ b ++ c) ≡ true
 three_unbroken a b c p q r = simp (list_all-append, p, q, r) refl
 
-six_unbroken : (a b c d e f : List ℕ) → is_unbroken a ≡ true → is_unbroken b ≡ true → is_unbroken c ≡ true → is_unbroken d ≡ true → is_unbroken e ≡ true → is_unbroken f ≡ true → is_unbroken (a ++ b ++ c ++ d ++ e ++ f) ≡ true
+six_unbroken : (a b c d e f : List ℕ) → is_unbroken a ≡ true → is_unbroken b ≡ true → is_unbroken c ≡ true → is_unbroken d ≡ true
+    → is_unbroken e ≡ true → is_unbroken f ≡ true → is_unbroken (a ++ b ++ c ++ d ++ e ++ f) ≡ true
 six_unbroken a b c d e f p q r s t u = simp (list_all-append, p, q, r, s, t, u) refl
 
 -- ---- fields
@@ -92,7 +94,8 @@ side_unbroken Equal = refl
 vector_unbroken : (criteria : Criteria) (vector : List ℤ) → HasVectorForm criteria vector → is_unbroken (vector_text vector) ≡ true
 vector_unbroken criteria vector h = listed_unbroken signed_decimal vector (λ k d lt. signed_unbroken _ (h.numbers k d lt))
 
-vectors_unbroken : (criteria : Criteria) (plus minus : List ℤ) → HasVectorForm criteria plus → HasVectorForm criteria minus → is_unbroken (vectors_text plus minus) ≡ true
+vectors_unbroken : (criteria : Criteria) (plus minus : List ℤ) → HasVectorForm criteria plus → HasVectorForm criteria minus
+    → is_unbroken (vectors_text plus minus) ≡ true
 vectors_unbroken criteria plus minus plus_form minus_form =
     let first = vector_unbroken criteria plus plus_form in
     let second = vector_unbroken criteria minus minus_form in
@@ -114,7 +117,8 @@ cites_unbroken : (cites : List Cite) → All (λ cite. is_unbroken (cite_text ci
 cites_unbroken [] h = refl
 cites_unbroken (cite ∷ cites) h = listed_unbroken cite_text (cite ∷ cites) h
 
-combination_unbroken : (criteria : Criteria) (combination : Combination) → HasCombinationForm criteria combination → is_unbroken (combination_text combination) ≡ true
+combination_unbroken : (criteria : Criteria) (combination : Combination) → HasCombinationForm criteria combination
+    → is_unbroken (combination_text combination) ≡ true
 combination_unbroken criteria combination h =
     let scale = signed_unbroken combination.scale h.scale in
     let weights = listed_unbroken signed_decimal combination.increments (λ k d lt. signed_unbroken _ (h.weights k d lt)) in

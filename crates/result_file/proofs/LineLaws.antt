@@ -22,7 +22,8 @@ use Rattle.criteria_model.specs.Criteria.{Criteria}
 use Rattle.result_file.specs.Reading.{at_end, or_else, exactly, read_tuple, read_pair, side_behind, read_side, read_ranking, read_answer, read_model}
 
 -- numbers up to a limit, joined by commas
-list_numbers : (most room : ℕ) → most < 10 ^ 64 → IsField (read_list (read_number most) room) (listed decimal) (IsList (λ n. n ≤ most) room) (λ t. EndsNumber t × (is_next 0x2C t ≡ false))
+list_numbers : (most room : ℕ) → most < 10 ^ 64
+    → IsField (read_list (read_number most) room) (listed decimal) (IsList (λ n. n ≤ most) room) (λ t. EndsNumber t × (is_next 0x2C t ≡ false))
 list_numbers most room wide = list_field _ _ _ _ (numbers_field most wide) (λ _. refl) room
 
 pub tuple_of_list : (text items rest : List ℕ) → read_list (read_number 25) 24 text ≡ Some (items, rest) → IsTuple items
@@ -51,11 +52,13 @@ regroup5 a b c d e f = regroup4 a b c d (e ++ f) ∙ sym (append_assoc (((a ++ b
 pub regroup6 : {X : Type 0} (a b c d e f g : List X) → a ++ (b ++ (c ++ (d ++ (e ++ (f ++ g))))) ≡ (((((a ++ b) ++ c) ++ d) ++ e) ++ f) ++ g
 regroup6 a b c d e f g = regroup5 a b c d e (f ++ g) ∙ sym (append_assoc ((((a ++ b) ++ c) ++ d) ++ e) f g)
 
-pub joined5 : {X : Type 0} (t a b c d e t1 t2 t3 t4 rest : List X) → t ≡ a ++ t1 → t1 ≡ b ++ t2 → t2 ≡ c ++ t3 → t3 ≡ d ++ t4 → t4 ≡ e ++ rest → t ≡ ((((a ++ b) ++ c) ++ d) ++ e) ++ rest
+pub joined5 : {X : Type 0} (t a b c d e t1 t2 t3 t4 rest : List X) → t ≡ a ++ t1 → t1 ≡ b ++ t2 → t2 ≡ c ++ t3 → t3 ≡ d ++ t4 → t4 ≡ e ++ rest
+    → t ≡ ((((a ++ b) ++ c) ++ d) ++ e) ++ rest
 joined5 {X} t a b c d e t1 t2 t3 t4 rest p q r s v =
     joined4 t a b c d t1 t2 t3 t4 p q r s ∙ ap (λ (u : List X). (((a ++ b) ++ c) ++ d) ++ u) v ∙ sym (append_assoc (((a ++ b) ++ c) ++ d) e rest)
 
-pub joined6 : {X : Type 0} (t a b c d e f t1 t2 t3 t4 t5 rest : List X) → t ≡ a ++ t1 → t1 ≡ b ++ t2 → t2 ≡ c ++ t3 → t3 ≡ d ++ t4 → t4 ≡ e ++ t5 → t5 ≡ f ++ rest → t ≡ (((((a ++ b) ++ c) ++ d) ++ e) ++ f) ++ rest
+pub joined6 : {X : Type 0} (t a b c d e f t1 t2 t3 t4 t5 rest : List X) → t ≡ a ++ t1 → t1 ≡ b ++ t2 → t2 ≡ c ++ t3 → t3 ≡ d ++ t4 → t4 ≡ e ++ t5
+    → t5 ≡ f ++ rest → t ≡ (((((a ++ b) ++ c) ++ d) ++ e) ++ f) ++ rest
 joined6 {X} t a b c d e f t1 t2 t3 t4 t5 rest p q r s v w =
     joined5 t a b c d e t1 t2 t3 t4 t5 p q r s v ∙ ap (λ (u : List X). ((((a ++ b) ++ c) ++ d) ++ e) ++ u) w ∙ sym (append_assoc ((((a ++ b) ++ c) ++ d) ++ e) f rest)
 
@@ -76,7 +79,8 @@ pub record IsExactly {X : Type 0} (P : X → Type 0) (count : ℕ) (xs : List X)
 abbrev pub EndsSide : List ℕ → Type 0
 EndsSide t = EndsNumber t × (is_next 0x2C t ≡ false)
 
-pub exactly_field : {X : Type 0} (item : List ℕ → Option (X × List ℕ)) (spell : X → List ℕ) (P : X → Type 0) → IsField item spell P EndsNumber → (count : ℕ) → 1 ≤ count → count ≤ 24 → IsField (λ text. exactly count (read_list item 24 text)) (listed spell) (IsExactly P count) EndsSide
+pub exactly_field : {X : Type 0} (item : List ℕ → Option (X × List ℕ)) (spell : X → List ℕ) (P : X → Type 0) → IsField item spell P EndsNumber
+    → (count : ℕ) → 1 ≤ count → count ≤ 24 → IsField (λ text. exactly count (read_list item 24 text)) (listed spell) (IsExactly P count) EndsSide
 exactly_field {X} item spell P field count low high =
     let lists = list_field item spell P EndsNumber field (λ _. refl) 24 in
     record {
@@ -129,7 +133,8 @@ pair_field criteria low high = record {
 
 -- ---- a side
 
-side_behind_takes : (side : Side) (word text : List ℕ) (found : Side × List ℕ) → side_behind side word text ≡ Some found → (found.0 ≡ side) × (text ≡ word ++ found.1)
+side_behind_takes : (side : Side) (word text : List ℕ) (found : Side × List ℕ) → side_behind side word text ≡ Some found
+    → (found.0 ≡ side) × (text ≡ word ++ found.1)
 side_behind_takes side word text found e =
     let b = bind_some (read_word word text) _ found e in
     let t = (word_field word).takes text b.0.0 b.0.1 b.1 in
@@ -170,7 +175,8 @@ side_field = record {
 
 -- ---- rankings and answer lines
 
-pub ranking_field : (criteria : ℕ) → 1 ≤ criteria → criteria ≤ 24 → IsField (read_ranking criteria) ranking_text (λ answer. IsPair criteria answer.pair) (λ _. Unit {0})
+pub ranking_field : (criteria : ℕ) → 1 ≤ criteria → criteria ≤ 24
+    → IsField (read_ranking criteria) ranking_text (λ answer. IsPair criteria answer.pair) (λ _. Unit {0})
 unfolding read_ranking
 ranking_field criteria low high = record {
   takes = λ text ranking rest e.
@@ -188,7 +194,8 @@ ranking_field criteria low high = record {
       ap (read_ranking criteria) (sym (regroup3 (pair_text ranking.pair) (codes " ") (side_text ranking.side) rest)) ∙ rw (first, second) refl;
 }
 
-pub answer_takes : (criteria : ℕ) (line : List ℕ) (answer : Answer) → 1 ≤ criteria → criteria ≤ 24 → read_answer criteria line ≡ Some answer → (line ≡ answer_line answer) × IsPair criteria answer.pair
+pub answer_takes : (criteria : ℕ) (line : List ℕ) (answer : Answer) → 1 ≤ criteria → criteria ≤ 24 → read_answer criteria line ≡ Some answer
+    → (line ≡ answer_line answer) × IsPair criteria answer.pair
 unfolding read_answer
 answer_takes criteria line answer low high e =
     let w = bind_some (read_word (codes "answer ") line) _ answer e in
@@ -200,7 +207,8 @@ answer_takes criteria line answer low high e =
     let line_is : line ≡ answer_line r.0.0 = whole ∙ rw end.0 (append-nil _) in
     subst (λ (found : Answer). (line ≡ answer_line found) × IsPair criteria found.pair) end.1 (line_is, ranking.1)
 
-pub answer_again : (criteria : ℕ) (answer : Answer) → 1 ≤ criteria → criteria ≤ 24 → IsPair criteria answer.pair → read_answer criteria (answer_line answer) ≡ Some answer
+pub answer_again : (criteria : ℕ) (answer : Answer) → 1 ≤ criteria → criteria ≤ 24 → IsPair criteria answer.pair
+    → read_answer criteria (answer_line answer) ≡ Some answer
 unfolding read_answer
 answer_again criteria answer low high h =
     let ranking = (ranking_field criteria low high).again answer [] h tt in
@@ -208,7 +216,8 @@ answer_again criteria answer low high h =
 
 -- ---- the model line
 
-pub model_takes : (line levels : List ℕ) (degree : ℕ) → read_model line ≡ Some (levels, degree) → (line ≡ model_line (record { levels = levels; degree = degree })) × HasModelForm (record { levels = levels; degree = degree })
+pub model_takes : (line levels : List ℕ) (degree : ℕ) → read_model line ≡ Some (levels, degree)
+    → (line ≡ model_line (record { levels = levels; degree = degree })) × HasModelForm (record { levels = levels; degree = degree })
 unfolding read_model
 model_takes line levels degree e =
     let w = bind_some (read_word (codes "model ") line) _ (levels, degree) e in
@@ -248,7 +257,8 @@ few_levels criteria h short =
     let c = length-append (codes "model ") (listed decimal criteria.levels) in
     omega (arith, a, b, c)
 
-pub model_again : (criteria : Criteria) → HasModelForm criteria → length (model_line criteria) ≤ 4096 → read_model (model_line criteria) ≡ Some (criteria.levels, criteria.degree)
+pub model_again : (criteria : Criteria) → HasModelForm criteria → length (model_line criteria) ≤ 4096
+    → read_model (model_line criteria) ≡ Some (criteria.levels, criteria.degree)
 unfolding read_model
 model_again criteria h short =
     let list = (list_numbers 999 2048 (lit< tt)).again criteria.levels (codes " degree " ++ (decimal criteria.degree ++ [])) (record { some = h.some; most = few_levels criteria h short; each = h.levels }) (refl, refl) in

@@ -29,7 +29,8 @@ adds_unbroken (of_events format survey) line next adds =
     subst HasNoLineEnd (sym adds.spelled)
     (HasNoLineEnd-entry_line format survey.listed.criteria (as_entry survey.listed.classes adds.event) adds.form)
 
-first_lines_unbroken : (content : Content) → IsRightContent content → All HasNoLineEnd ((heading (kind_of content) ∷ []) ++ model_line (criteria_of content) ∷ [])
+first_lines_unbroken : (content : Content) → IsRightContent content
+    → All HasNoLineEnd ((heading (kind_of content) ∷ []) ++ model_line (criteria_of content) ∷ [])
 first_lines_unbroken content h =
     All-cons HasNoLineEnd (heading (kind_of content)) (model_line (criteria_of content) ∷ []) (HasNoLineEnd-heading (kind_of content))
     (All-cons HasNoLineEnd (model_line (criteria_of content)) []
@@ -243,7 +244,8 @@ ends_at text NoMemory on h = absurd on
 -- ---- one place has one verdict
 
 -- a file that is whole has one content
-whole_both : (stage : Stage) (rest : List ℕ) (P Q : Content → Type 0) → IsWhole stage rest P → IsWhole stage rest Q → (content : Content) × P content × Q content
+whole_both : (stage : Stage) (rest : List ℕ) (P Q : Content → Type 0) → IsWhole stage rest P → IsWhole stage rest Q
+    → (content : Content) × P content × Q content
 whole_both blank rest P Q h k = absurd h
 whole_both (headed kind) rest P Q h k = absurd h
 whole_both (begun content) rest P Q h k = (content, h.1, k.1)
@@ -312,14 +314,16 @@ over_is_form lines (headed kind) line part says over h = absurd over
 over_is_form lines (begun content) line part says over h = absurd over
 over_is_form lines (ended content) line part says over h = fails_once lines (ended content) line part Form says h tt
 
-next_line_once : (lines : List (List ℕ)) (stage : Stage) (rest : List ℕ) (one other : Part) → Says lines stage → NextLineFails stage rest one → NextLineFails stage rest other → one ≡ other
+next_line_once : (lines : List (List ℕ)) (stage : Stage) (rest : List ℕ) (one other : Part) → Says lines stage → NextLineFails stage rest one
+    → NextLineFails stage rest other → one ≡ other
 next_line_once lines stage rest one other says h k =
     let same : h.line ≡ k.line =
     (line_once h.line k.line h.after k.after (h.split.unbroken 0 h.line (omega arith)) (k.split.unbroken 0 k.line (omega arith))
     (sym (one_line rest h.line h.after h.split) ∙ one_line rest k.line k.after k.split)).0 in
     fails_once lines stage k.line one other says (subst (λ (l : List ℕ). Fails stage l one) same h.fails) k.fails
 
-next_once : (lines : List (List ℕ)) (stage : Stage) (rest : List ℕ) (one other : Part) → Says lines stage → NextFails stage rest one → NextFails stage rest other → one ≡ other
+next_once : (lines : List (List ℕ)) (stage : Stage) (rest : List ℕ) (one other : Part) → Says lines stage → NextFails stage rest one
+    → NextFails stage rest other → one ≡ other
 next_once lines stage rest one other says h k =
     elim h [
       | inl long ↦ elim k [

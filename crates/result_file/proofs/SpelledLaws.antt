@@ -47,7 +47,8 @@ heading_fits (Result Two) = omega arith
 -- ---- model lines
 
 -- a model line of at most the longest length spells one pair of level counts and degree limit
-pub model_line_once : (one other : Criteria) → HasModelForm one → HasModelForm other → length (model_line one) ≤ 4096 → model_line one ≡ model_line other → one ≡ other
+pub model_line_once : (one other : Criteria) → HasModelForm one → HasModelForm other → length (model_line one) ≤ 4096
+    → model_line one ≡ model_line other → one ≡ other
 model_line_once one other h k fits same =
     let first : read_model (model_line one) ≡ Some (one.levels, one.degree) = model_again one h fits in
     let other_fits : length (model_line other) ≤ 4096 = omega (arith, fits, ap length same) in

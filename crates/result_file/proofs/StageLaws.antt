@@ -25,17 +25,20 @@ no_model line short none kind criteria form spelled =
     let e : read_model line ≡ Some (criteria.levels, criteria.degree) = rw spelled (model_again criteria form (subst (λ (l : List ℕ). length l ≤ 4096) spelled short)) in
     absurd cc
 
-pub spelled_model : (line cells : List ℕ) (count degree : ℕ) (model : Criteria) → read_model line ≡ Some (take count cells, degree) → model ≡ record { levels = take count cells; degree = degree } → line ≡ model_line model
+pub spelled_model : (line cells : List ℕ) (count degree : ℕ) (model : Criteria) → read_model line ≡ Some (take count cells, degree)
+    → model ≡ record { levels = take count cells; degree = degree } → line ≡ model_line model
 spelled_model line cells count degree model e is = rw is (model_takes line (take count cells) degree e).0
 
-pub wrong_model : (line cells : List ℕ) (count degree : ℕ) (fault : ModelFault) → read_model line ≡ Some (take count cells, degree) → model_fault (take count cells) degree ≡ Some fault → (kind : Kind) → Fails (headed kind) line Model
+pub wrong_model : (line cells : List ℕ) (count degree : ℕ) (fault : ModelFault) → read_model line ≡ Some (take count cells, degree)
+    → model_fault (take count cells) degree ≡ Some fault → (kind : Kind) → Fails (headed kind) line Model
 wrong_model line cells count degree fault e is kind =
     let t = model_takes line (take count cells) degree e in
     (record { levels = take count cells; degree = degree }, t.1, t.0, λ none. absurd cc)
 
 -- ---- one more line
 
-pub heads : (kind : Kind) (line : List ℕ) (lines : List (List ℕ)) (stage : Stage) → line ≡ heading kind → Says lines stage → IsAtStage reached.Blank stage → GoesOn lines line (reached.Headed kind)
+pub heads : (kind : Kind) (line : List ℕ) (lines : List (List ℕ)) (stage : Stage) → line ≡ heading kind → Says lines stage
+    → IsAtStage reached.Blank stage → GoesOn lines line (reached.Headed kind)
 heads kind line lines blank is says h = record {
   stage = headed kind;
   says = rw (says, is) refl;
@@ -45,7 +48,8 @@ heads kind line lines (headed other) is says h = absurd h
 heads kind line lines (begun content) is says h = absurd h
 heads kind line lines (ended content) is says h = absurd h
 
-pub begins : (body : Body) (kind : Kind) (model : Criteria) (line : List ℕ) (lines : List (List ℕ)) (stage : Stage) → line ≡ model_line model → Starts body kind model → Says lines stage → IsAtStage (reached.Headed kind) stage → GoesOn lines line (reached.Begun body)
+pub begins : (body : Body) (kind : Kind) (model : Criteria) (line : List ℕ) (lines : List (List ℕ)) (stage : Stage) → line ≡ model_line model
+    → Starts body kind model → Says lines stage → IsAtStage (reached.Headed kind) stage → GoesOn lines line (reached.Begun body)
 begins body kind model line lines blank spelled s says h = absurd h
 begins body kind model line lines (headed other) spelled s says h = record {
   stage = begun s.content;
@@ -55,7 +59,8 @@ begins body kind model line lines (headed other) spelled s says h = record {
 begins body kind model line lines (begun content) spelled s says h = absurd h
 begins body kind model line lines (ended content) spelled s says h = absurd h
 
-pub ends : (body : Body) (line : List ℕ) (lines : List (List ℕ)) (stage : Stage) → line ≡ end_line → Says lines stage → IsAtStage (reached.Begun body) stage → GoesOn lines line (reached.Ended body)
+pub ends : (body : Body) (line : List ℕ) (lines : List (List ℕ)) (stage : Stage) → line ≡ end_line → Says lines stage
+    → IsAtStage (reached.Begun body) stage → GoesOn lines line (reached.Ended body)
 ends body line lines blank is says h = absurd h
 ends body line lines (headed kind) is says h = absurd h
 ends body line lines (begun content) is says h = record {
@@ -65,7 +70,8 @@ ends body line lines (begun content) is says h = record {
 }
 ends body line lines (ended content) is says h = absurd h
 
-pub adds : (old new : Body) (line : List ℕ) → ((content : Content) → Keeps old content → Adds new line content) → (lines : List (List ℕ)) (stage : Stage) → Says lines stage → IsAtStage (reached.Begun old) stage → GoesOn lines line (reached.Begun new)
+pub adds : (old new : Body) (line : List ℕ) → ((content : Content) → Keeps old content → Adds new line content)
+    → (lines : List (List ℕ)) (stage : Stage) → Says lines stage → IsAtStage (reached.Begun old) stage → GoesOn lines line (reached.Begun new)
 adds old new line added lines blank says h = absurd h
 adds old new line added lines (headed kind) says h = absurd h
 adds old new line added lines (begun content) says h =
@@ -77,13 +83,16 @@ adds old new line added lines (begun content) says h =
     }
 adds old new line added lines (ended content) says h = absurd h
 
-pub stops_begun : (body : Body) (line : List ℕ) (stop : Stop) → ((content : Content) → line ≢ end_line → Keeps body content → StopsAt (begun content) line stop) → line ≢ end_line → (stage : Stage) → IsAtStage (reached.Begun body) stage → StopsAt stage line stop
+pub stops_begun : (body : Body) (line : List ℕ) (stop : Stop)
+    → ((content : Content) → line ≢ end_line → Keeps body content → StopsAt (begun content) line stop) → line ≢ end_line → (stage : Stage)
+    → IsAtStage (reached.Begun body) stage → StopsAt stage line stop
 stops_begun body line stop failed no_end blank h = absurd h
 stops_begun body line stop failed no_end (headed kind) h = absurd h
 stops_begun body line stop failed no_end (begun content) h = failed content no_end h
 stops_begun body line stop failed no_end (ended content) h = absurd h
 
-pub stops_headed : (kind : Kind) (line : List ℕ) (part : Part) → ((other : Kind) → Fails (headed other) line part) → (stage : Stage) → IsAtStage (reached.Headed kind) stage → Fails stage line part
+pub stops_headed : (kind : Kind) (line : List ℕ) (part : Part) → ((other : Kind) → Fails (headed other) line part) → (stage : Stage)
+    → IsAtStage (reached.Headed kind) stage → Fails stage line part
 stops_headed kind line part failed blank h = absurd h
 stops_headed kind line part failed (headed other) h = failed other
 stops_headed kind line part failed (begun content) h = absurd h

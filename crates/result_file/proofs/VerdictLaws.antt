@@ -33,7 +33,8 @@ for_told None P f = tt
 for_told (Some bytes) P f = f bytes refl
 
 -- what is told now, where it is told what was before
-told_now : (text now : Option (List ℕ)) (front bytes : List ℕ) → text ≡ prepend_known front now → text ≡ Some bytes → (rest : List ℕ) × (now ≡ Some rest) × (bytes ≡ front ++ rest)
+told_now : (text now : Option (List ℕ)) (front bytes : List ℕ) → text ≡ prepend_known front now → text ≡ Some bytes
+    → (rest : List ℕ) × (now ≡ Some rest) × (bytes ≡ front ++ rest)
 told_now text None front bytes e is = absurd cc
 told_now text (Some rest) front bytes e is = (rest, refl, cc)
 
@@ -41,7 +42,9 @@ one_line : (line : List ℕ) → HasNoLineEnd line → All HasNoLineEnd (line �
 one_line line h = All-cons HasNoLineEnd line [] h (All-nil HasNoLineEnd)
 
 -- a whole line that fails
-pub line_checked : (text before now : Option (List ℕ)) (number : ℕ) (progress : Progress) (new : LinesView) (part : Part) → HasCome text before number progress → GivesLine new before now → length new.line ≤ 4096 → ((stage : Stage) → IsAtStage progress stage → Fails stage new.line part) → IsToldChecked text (Invalid number part)
+pub line_checked : (text before now : Option (List ℕ)) (number : ℕ) (progress : Progress) (new : LinesView) (part : Part)
+    → HasCome text before number progress → GivesLine new before now → length new.line ≤ 4096
+    → ((stage : Stage) → IsAtStage progress stage → Fails stage new.line part) → IsToldChecked text (Invalid number part)
 line_checked text before now number progress new part h g short fails =
     for_told text (λ bytes. IsChecked bytes (Invalid number part)) (λ bytes is.
     let t = told_now text before (unlines h.lines) bytes h.told is in
@@ -63,7 +66,9 @@ line_checked text before now number progress new part h g short fails =
     })
 
 -- a whole line that is right
-pub line_come : (text before now : Option (List ℕ)) (number : ℕ) (progress next : Progress) (new : LinesView) → HasCome text before number progress → GivesLine new before now → ((lines : List (List ℕ)) (stage : Stage) → Says lines stage → IsAtStage progress stage → GoesOn lines new.line next) → HasCome text now (number + 1) next
+pub line_come : (text before now : Option (List ℕ)) (number : ℕ) (progress next : Progress) (new : LinesView) → HasCome text before number progress
+    → GivesLine new before now → ((lines : List (List ℕ)) (stage : Stage) → Says lines stage → IsAtStage progress stage → GoesOn lines new.line next)
+    → HasCome text now (number + 1) next
 line_come text before now number progress next new h g goes =
     let go = goes h.lines h.stage h.says h.stands in
     let whole : unlines (h.lines ++ new.line ∷ []) ≡ unlines h.lines ++ (new.line ++ line_end ∷ []) =
@@ -80,7 +85,8 @@ line_come text before now number progress next new h g goes =
     }
 
 -- the last lines of a file, and a piece after them
-ends_whole : (verdict : Checked) (bytes piece : List ℕ) (lines : List (List ℕ)) (stage : Stage) → bytes ≡ unlines lines ++ piece → Says lines stage → EndsWhole stage piece verdict → (content : Content) × IsFileOf content bytes × IsOfWhole content verdict
+ends_whole : (verdict : Checked) (bytes piece : List ℕ) (lines : List (List ℕ)) (stage : Stage) → bytes ≡ unlines lines ++ piece → Says lines stage
+    → EndsWhole stage piece verdict → (content : Content) × IsFileOf content bytes × IsOfWhole content verdict
 ends_whole verdict bytes piece lines blank whole says h = absurd h
 ends_whole verdict bytes piece lines (headed kind) whole says h = absurd h
 ends_whole verdict bytes piece lines (begun content) whole says h = (
@@ -100,7 +106,9 @@ ends_whole verdict bytes piece lines (ended content) whole says h = (
   h.1,
 )
 
-pub ends_checked : (verdict : Checked) (bytes piece : List ℕ) (lines : List (List ℕ)) (stage : Stage) (number : ℕ) → bytes ≡ unlines lines ++ piece → All HasNoLineEnd lines → HasNoLineEnd piece → length piece ≤ 4096 → Says lines stage → number ≡ length lines + 1 → EndsAs stage piece number verdict → IsChecked bytes verdict
+pub ends_checked : (verdict : Checked) (bytes piece : List ℕ) (lines : List (List ℕ)) (stage : Stage) (number : ℕ) → bytes ≡ unlines lines ++ piece
+    → All HasNoLineEnd lines → HasNoLineEnd piece → length piece ≤ 4096 → Says lines stage → number ≡ length lines + 1
+    → EndsAs stage piece number verdict → IsChecked bytes verdict
 ends_checked Valid bytes piece lines stage number whole unbroken one short says count h = ends_whole Valid bytes piece lines stage whole says h
 ends_checked ValidComplete bytes piece lines stage number whole unbroken one short says count h = ends_whole ValidComplete bytes piece lines stage whole says h
 ends_checked (Invalid line part) bytes piece lines stage number whole unbroken one short says count h = record {
@@ -125,7 +133,9 @@ ends_checked ReadFault bytes piece lines stage number whole unbroken one short s
 ends_checked NoMemory bytes piece lines stage number whole unbroken one short says count h = absurd h
 
 -- the end of the text, after a piece of a line
-piece_checked : (text before now : Option (List ℕ)) (number : ℕ) (progress : Progress) (piece : List ℕ) (verdict : Checked) → HasCome text before number progress → before ≡ prepend_known piece now → IsAtEnd now → HasNoLineEnd piece → length piece ≤ 4096 → ((stage : Stage) → IsAtStage progress stage → EndsAs stage piece number verdict) → IsToldChecked text verdict
+piece_checked : (text before now : Option (List ℕ)) (number : ℕ) (progress : Progress) (piece : List ℕ) (verdict : Checked)
+    → HasCome text before number progress → before ≡ prepend_known piece now → IsAtEnd now → HasNoLineEnd piece → length piece ≤ 4096
+    → ((stage : Stage) → IsAtStage progress stage → EndsAs stage piece number verdict) → IsToldChecked text verdict
 piece_checked text before now number progress piece verdict h told at_end one short ends =
     for_told text (λ bytes. IsChecked bytes verdict) (λ bytes is.
     let t = told_now text before (unlines h.lines) bytes h.told is in
@@ -134,16 +144,22 @@ piece_checked text before now number progress piece verdict h told at_end one sh
     let rest : t.0 ≡ piece = u.2 ∙ ap (λ (p : List ℕ). piece ++ p) none ∙ append-nil piece in
     ends_checked verdict bytes piece h.lines h.stage number (t.2 ∙ ap (λ (p : List ℕ). unlines h.lines ++ p) rest) h.unbroken one short h.says h.number (ends h.stage h.stands))
 
-pub end_with_piece : (text before now : Option (List ℕ)) (number : ℕ) (progress : Progress) (new : LinesView) (verdict : Checked) → HasCome text before number progress → GivesPiece new before now → length new.line ≤ 4096 → ((stage : Stage) → IsAtStage progress stage → EndsAs stage new.line number verdict) → IsToldChecked text verdict
+pub end_with_piece : (text before now : Option (List ℕ)) (number : ℕ) (progress : Progress) (new : LinesView) (verdict : Checked)
+    → HasCome text before number progress → GivesPiece new before now → length new.line ≤ 4096
+    → ((stage : Stage) → IsAtStage progress stage → EndsAs stage new.line number verdict) → IsToldChecked text verdict
 end_with_piece text before now number progress new verdict h g short ends =
     piece_checked text before now number progress new.line verdict h g.told g.ended g.unbroken short ends
 
-pub end_without_piece : (text before now : Option (List ℕ)) (number : ℕ) (progress : Progress) (new : LinesView) (verdict : Checked) → HasCome text before number progress → GivesEnd new before now → ((stage : Stage) → IsAtStage progress stage → EndsAs stage new.line number verdict) → IsToldChecked text verdict
+pub end_without_piece : (text before now : Option (List ℕ)) (number : ℕ) (progress : Progress) (new : LinesView) (verdict : Checked)
+    → HasCome text before number progress → GivesEnd new before now
+    → ((stage : Stage) → IsAtStage progress stage → EndsAs stage new.line number verdict) → IsToldChecked text verdict
 end_without_piece text before now number progress new verdict h g ends =
     piece_checked text before now number progress [] verdict h (sym g.same ∙ sym (prepend_known-nil now)) g.ended (All-nil _) (omega arith) (rw g.no_line at ends)
 
 -- more bytes than the longest line's without a line end
-pub long_checked : (text before now left : Option (List ℕ)) (number : ℕ) (progress : Progress) (new : LinesView) → HasCome text before number progress → GivesTooLong new before now → now ≡ prepend_known new.kept left → new.longest ≡ 4096 → IsToldChecked text (Invalid number Form)
+pub long_checked : (text before now left : Option (List ℕ)) (number : ℕ) (progress : Progress) (new : LinesView)
+    → HasCome text before number progress → GivesTooLong new before now → now ≡ prepend_known new.kept left → new.longest ≡ 4096
+    → IsToldChecked text (Invalid number Form)
 long_checked text before now left number progress new h g ahead longest =
     for_told text (λ bytes. IsChecked bytes (Invalid number Form)) (λ bytes is.
     let t = told_now text before (unlines h.lines) bytes h.told is in

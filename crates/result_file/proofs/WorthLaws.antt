@@ -1,5 +1,5 @@
 -- What a valid file is worth.
-use Rattle.std.proofs.Common.{ℕ, List, [], ◌∷◌, append-nil, subst, refl, arith}
+use Rattle.std.proofs.Common.{ℕ, List, [], ◌∷◌, append-nil, subst, refl}
 use Rattle.criteria_model.specs.declared.pairs.Pair.{Pair}
 use Rattle.criteria_model.specs.declared.pairs.Answer.{Answer}
 use Rattle.criteria_model.specs.declared.pairs.Side.{Side}
@@ -30,7 +30,7 @@ ranks_replicas criteria answers pair side ranked =
     record {
       itself = ranked;
       replicas = λ a b flip replica.
-          let there : IsPlaceOf alone a b 1 flip = record { pair = pair; stands = record { positive = omega arith; found = refl }; replica = replica } in
+          let there : IsPlaceOf alone a b 1 flip = record { pair = pair; stands = refl; replica = replica } in
           class_ranks_pairs_lem alone answers 1 side pair a b flip refl ranked there;
     }
 
