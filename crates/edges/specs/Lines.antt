@@ -14,7 +14,7 @@ pub record LinesView : Type 0 where
   pub longest : ℕ
   pub reserved : ℕ
 
--- a reader of lines of at most so many bytes, which took nothing yet
+-- a reader of lines of at most this number of bytes, which took nothing yet
 abbrev pub new_lines : ℕ → LinesView
 new_lines longest = record { kept = []; line = []; longest = longest; reserved = longest }
 

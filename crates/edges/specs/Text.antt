@@ -6,6 +6,6 @@ pub record TextView : Type 0 where
   pub bytes : List ℕ
   pub room : ℕ
 
--- a text with room for so many bytes, and none of them yet
+-- a text with room for this number of bytes, and none of them yet
 abbrev pub new_text : ℕ → TextView
 new_text room = record { bytes = []; room = room }

@@ -1,19 +1,19 @@
--- Bytes that an end of the program may tell: `Some` of them, or `None` where it says nothing.
+-- Bytes of an end of the program that clauses may know: `Some` of them, or `None` where nothing is known.
 use Rattle.std.specs.Prelude.{◌≡◌, ℕ, List, [], take, Option, Some, IfSome}
 use Rattle.std.specs.Io.KnownBytes.{prepend_known, append_known}
 
--- the told bytes before are bs and then those told now: bs was taken from the front
+-- the known bytes before are bs and then those known now: bs was taken from the front
 abbrev pub Takes : Option (List ℕ) → Option (List ℕ) → List ℕ → Type 0
 Takes before now bs = before ≡ prepend_known bs now
 
--- where bytes are told now, they are those told before, with bs appended
+-- where bytes are known now, they are those known before, with bs appended
 abbrev pub Appends : Option (List ℕ) → Option (List ℕ) → List ℕ → Type 0
 Appends before now bs = IfSome now (λ whole. append_known before bs ≡ Some whole)
 
--- where bytes are told now, they are those told before, with some first bytes of bs appended
+-- where bytes are known now, they are those known before, with some first bytes of bs appended
 abbrev pub AppendsPrefix : Option (List ℕ) → Option (List ℕ) → List ℕ → Type 0
 AppendsPrefix before now bs = (n : ℕ) × Appends before now (take n bs)
 
--- where it is told what is left, nothing is left
+-- where it is known what is left, nothing is left
 abbrev pub IsAtEnd : Option (List ℕ) → Type 0
 IsAtEnd left = IfSome left (λ bytes. bytes ≡ [])

@@ -9,7 +9,7 @@ pub struct Failed;
 
 /// Where bytes come from.
 pub trait Source {
-    // The bytes still to come, where the source tells them.
+    // The bytes still to come, where they are known.
     ghost left: { Self → Option (List ℕ) };
 
     // How many calls failed so far.
@@ -28,7 +28,7 @@ pub trait Source {
 
 /// Where bytes go.
 pub trait Sink {
-    // The bytes put so far, where the sink tells them.
+    // The bytes put so far, where they are known.
     ghost written: { Self → Option (List ℕ) };
 
     // How many calls failed so far.

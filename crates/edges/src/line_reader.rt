@@ -161,7 +161,7 @@ impl Lines {
         line_end_within(kept, searched, self.longest)
     }
 
-    /// Takes more bytes of the source behind those kept, and returns how many. The line shown is
+    /// Takes more bytes of the source after those kept, and returns how many. The line shown is
     /// empty then.
     fn refill<S: Source>(&mut self, source: &mut S) -> Result<usize, Failed>
         requires { length self.old.kept ≤ self.old.longest }
@@ -251,7 +251,7 @@ fn move_to_front(buffer: &mut Vec<u8>, start: usize, end: usize)
     }
 }
 
-/// Takes bytes of the source into `buffer` behind its first `kept` bytes, and returns how many.
+/// Takes bytes of the source into `buffer` after its first `kept` bytes, and returns how many.
 fn take_behind<S: Source>(buffer: &mut [u8], kept: usize, source: &mut S) -> Result<usize, Failed>
     requires { kept < length buffer.old }
     ensures within { IfOk result (λ n. kept + n ≤ length buffer.old) }

@@ -1,4 +1,4 @@
-//! Standard input and output. What they give and take is trusted; no content is told.
+//! Standard input and output. What they give and take is trusted; no clause knows the content.
 ghost use Rattle.std.specs.Prelude.{◌≡◌, ◌<◌, ◌≤◌, length, take, None, IfOk, OnOk, OnErr};
 ghost use Rattle.edges.specs.Faults.{HasRisen};
 ghost use Rattle.edges.specs.Told.{Appends, IsAtEnd, Takes};

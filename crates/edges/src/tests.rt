@@ -113,7 +113,7 @@ fn a_text_goes_out_as_far_as_there_is_room(rt: HostRuntime) -> Result<(), Fail> 
     Ok(())
 }
 
-/// An end of the system whose calls fail so many times before it gives or takes a byte.
+/// An end of the system whose calls fail `times` times before it gives or takes a byte.
 #[derive(Drop)]
 struct Failing {
     times: u32,

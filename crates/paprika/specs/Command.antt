@@ -47,8 +47,8 @@ Answers (Unfinished line) before now status = Writes (verdict_line (Unfinished l
 Answers ReadFault before now status = IsSilent 3 before now status
 Answers NoMemory before now status = IsSilent 5 before now status
 
--- the file that a source told was checked, and its verdict answered; `left` is what the source tells now, and a sink told
--- `before` and tells `now`
+-- the file of a source was checked, and its verdict answered. `told` is what was left in the source before, `left` what is left
+-- now; `before` and `now` are what a sink holds; each where it is known
 pub record ChecksFile (told left before now : Option (List ℕ)) (status : ℕ) : Type 0 where
   pub verdict : Checked
   pub checked : IsToldChecked told verdict
@@ -59,15 +59,15 @@ pub record ChecksFile (told left before now : Option (List ℕ)) (status : ℕ) 
 abbrev pub ShowsUsage : Option (List ℕ) → Option (List ℕ) → ℕ → Type 0
 ShowsUsage before now status = Writes usage_line 2 before now status ⊎ IsSilent 5 before now status
 
--- where it is told, the text is a valid file, and each pair that it eliminates is ranked so
+-- where it is known, the text is a valid file, and each pair that it eliminates is ranked so
 abbrev pub IsSoundFile : Option (List ℕ) → Type 0
 IsSoundFile told = IfSome told (λ text. (content : Content) × IsFileOf content text × EliminationsAreSound content)
 
--- the sink tells that the line `valid complete` was written, and nothing else
+-- the sink shows that the line `valid complete` was written, and nothing else
 abbrev pub SaysComplete : Option (List ℕ) → Option (List ℕ) → Type 0
 SaysComplete before now = (text : List ℕ) × (before ≡ Some text) × (now ≡ Some (text ++ verdict_line ValidComplete))
 
--- where it is told, the text is the valid file of a survey that settles every pair
+-- where it is known, the text is the valid file of a survey that settles every pair
 abbrev pub IsSettlingFile : Option (List ℕ) → Type 0
 IsSettlingFile told = IfSome told (λ text. (content : Content) × IsFileOf content text × SettlesAll content)
 
@@ -77,6 +77,6 @@ pub record IsWorthAnswer (told before now : Option (List ℕ)) (status : ℕ) : 
   pub sound : status ≡ 0 → IsSoundFile told
   pub settling : SaysComplete before now → IsSettlingFile told
 
--- the source tells the text of a valid file
+-- the source holds the text of a valid file, and that is known
 abbrev pub IsValidFile : Option (List ℕ) → Type 0
 IsValidFile told = (text : List ℕ) × (content : Content) × (told ≡ Some text) × IsFileOf content text

@@ -94,7 +94,7 @@ const WHOLE: [(&[u8], &[u8]); 21] = [
     ),
 ];
 
-/// Fifth lines after `ANSWERS`, with what `check` writes of the file that ends behind them.
+/// Fifth lines after `ANSWERS`, with what `check` writes of the file that ends after them.
 const ELIMINATIONS: [(&[u8], &[u8]); 30] = [
     (b"1 2,0,1/1,0,2 left 1 0,0,0 1:1,2:1", b"valid\n"),
     (b"0 2,0,1/1,0,2 left 2 0,0,0 1:2,2:2", b"valid\n"),
@@ -232,7 +232,7 @@ fn long_line_is_refused_without_another_read(rt: HostRuntime) -> Result<(), Fail
     Ok(())
 }
 
-/// A file of claims with the same answer so many times.
+/// A file of claims with the same answer, `answers` times.
 fn claims_file(alloc: Global, answers: u32) -> Result<Vec<u8>, Fail> {
     let mut text = Vec::from_slice(alloc, b"paprika claims 1\nmodel 2,2 degree 2\n")?;
     for _ in 0..answers {

@@ -1,5 +1,5 @@
 -- Checked files: which bytes are valid, and what is wrong with the others. A file has a heading, a model, claims or
--- events, and an end. It is told by what its lines are, whatever reads them.
+-- events, and an end. It is what its lines are, whatever reads them.
 use Rattle.std.specs.Prelude.{◌≡◌, ◌≢◌, ◌⊎◌, ℕ, ◌+◌, ◌<◌, ◌≤◌, List, [], ◌∷◌, ◌++◌, length, None, Option, IfSome}
 use Rattle.edges.specs.Line.{HasNoLineEnd, Splits, first_line, unlines}
 use Rattle.criteria_model.specs.Criteria.{Criteria}
@@ -110,6 +110,6 @@ IsChecked text (Unfinished line) = ComesTo text line IsCut
 IsChecked text ReadFault = Unit {0}
 IsChecked text NoMemory = Unit {0}
 
--- the same of a text, where it is told
+-- the same of a text, where it is known
 abbrev pub IsToldChecked : Option (List ℕ) → Checked → Type 0
 IsToldChecked told verdict = IfSome told (λ text. IsChecked text verdict)

@@ -4,7 +4,7 @@ use Rattle.criteria_model.specs.declared.pairs.Pair.{Pair}
 use Rattle.criteria_model.specs.declared.pairs.Answer.{Answer}
 use Rattle.result_file.specs.declared.eliminations.Elimination.{Elimination}
 
--- a line behind the model: an answer on a pair, or a verdict on one with the combination that is to prove it
+-- a line after the model: an answer on a pair, or a verdict on one with the combination that is to prove it
 pub data Claim : Type 0 where
   answered : Answer → Claim
   eliminated : Elimination → Claim

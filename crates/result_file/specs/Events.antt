@@ -34,7 +34,7 @@ NamesClass listed (events.Eliminate worker place verdict combination) = IsPlace 
 NamesClass listed (events.Issue desk place plus minus) = IsPlace listed place
 NamesClass listed _ = Unit {0}
 
--- the entry tells this event
+-- the entry stands for this event
 pub record Tells (listed : Listed) (entry : Entry) (event : Event) : Type 0 where
   pub class : NamesClass listed event
   pub told : entry ≡ as_entry listed.classes event

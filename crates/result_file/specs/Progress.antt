@@ -40,7 +40,7 @@ EndsAs stage piece number (Unfinished line) = LeavesOpen stage piece × (line �
 EndsAs stage piece number ReadFault = ⊥
 EndsAs stage piece number NoMemory = ⊥
 
--- what was read of a text, where it is told: right lines, of which there are one fewer than the number `line`,
+-- what was read of a text, where it is known: right lines, of which there are one fewer than the number `line`,
 -- at a stage that the progress stands for
 pub record HasCome (text now : Option (List ℕ)) (line : ℕ) (progress : Progress) : Type 0 where
   pub lines : List (List ℕ)

@@ -27,7 +27,7 @@ abbrev pub or_else : {X : Type 0} → Option X → Option X → Option X
 or_else None other = other
 or_else (Some x) other = Some x
 
--- a list of exactly so many items
+-- a list of exactly this number of items
 abbrev pub exactly : {X : Type 0} → ℕ → Option (List X × List ℕ) → Option (List X × List ℕ)
 exactly count read = read >>= λ found. if length found.0 == count then Some found else None
 
@@ -40,7 +40,7 @@ read_model line =
     read_number MAX_MODEL_NUMBER blank.1 >>= λ degree.
     at_end (levels.0, degree.0) degree.1
 
--- the levels of one side of a pair, for so many criteria
+-- the levels of one side of a pair, for this number of criteria
 unfoldable pub read_tuple : ℕ → List ℕ → Option (List ℕ × List ℕ)
 read_tuple criteria text = exactly criteria (read_list (read_number 25) 24 text)
 
@@ -52,7 +52,7 @@ read_pair criteria text =
     read_tuple criteria slash.1 >>= λ right.
     Some (record { left = left.0; right = right.0 }, right.1)
 
--- a side behind its word
+-- a side after its word
 abbrev pub side_behind : Side → List ℕ → List ℕ → Option (Side × List ℕ)
 side_behind side word text = read_word word text >>= λ found. Some (side, found.1)
 
@@ -77,7 +77,7 @@ read_answer criteria line =
     read_ranking criteria word.1 >>= λ ranking.
     at_end ranking.0 ranking.1
 
--- the increments' weights, for so many increments
+-- the increments' weights, for this number of increments
 unfoldable pub read_weights : ℕ → List ℕ → Option (List ℤ × List ℕ)
 read_weights increments text = exactly increments (read_list read_certificate 24 text)
 
@@ -134,7 +134,7 @@ read_numbers text =
     read_counted MAX_EVENTS blank.1 >>= λ number.
     Some ((desk.0, number.0), number.1)
 
--- a vector with a positive number for each of so many increments
+-- a vector with a positive number for each of this number of increments
 unfoldable pub read_vector : ℕ → List ℕ → Option (List ℤ × List ℕ)
 read_vector increments text = passing (list_all (int_le (pos 1))) (read_weights increments text)
 

@@ -31,7 +31,7 @@ NamesNoClass criteria (Eliminate elimination) = ¬ IsClass criteria elimination.
 NamesNoClass criteria (Issue desk pair plus minus) = ¬ IsClass criteria pair
 NamesNoClass criteria _ = ⊥
 
--- the entry tells an event that may not follow the history, and this is the first part that it lacks
+-- the entry stands for an event that may not follow the history, and this is the first part that it lacks
 pub record BreaksRule (survey : Recorded) (entry : Entry) (part : Part) : Type 0 where
   pub event : Event
   pub broken : Broken

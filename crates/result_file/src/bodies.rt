@@ -14,7 +14,7 @@ use crate::verdicts::Checked;
 use criteria_model::Model;
 use std::alloc::Global;
 
-/// What is kept of the lines of a file behind its model line.
+/// What is kept of the lines of a file after its model line.
 #[derive(Drop)]
 pub(crate) enum Body {
     Claims(Claims),

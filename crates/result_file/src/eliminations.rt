@@ -26,7 +26,7 @@ pub struct Elimination {
     pub combination: Combination,
 }
 
-/// The elimination that a line spells, for so many criteria and increments.
+/// The elimination that a line spells, for these numbers of criteria and increments.
 #[tactic(auto, unfolding(crate::specs::Reading::read_elimination))]
 pub(crate) fn elimination_of(line: &[u8], criteria: usize, increments: usize) -> Option<Elimination>
     ensures { Reads result (read_elimination criteria increments line.now) }

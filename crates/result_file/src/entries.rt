@@ -54,7 +54,7 @@ pub enum Format {
     Two,
 }
 
-/// The entry that a line spells, for so many criteria and increments.
+/// The entry that a line spells, for these numbers of criteria and increments.
 pub(crate) fn entry_of(
     line: &[u8],
     format: Format,

@@ -6,7 +6,7 @@ pub fn one_content()
     ensures { OneContent }
 {}
 
-/// A text deserves one verdict at most, a read fault and want of memory apart.
+/// A text deserves one verdict at most, apart from a read fault and from being out of memory.
 pub fn one_verdict()
     ensures { OneVerdict }
 {}

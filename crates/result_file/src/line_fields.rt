@@ -78,7 +78,7 @@ pub(crate) fn ranking(fields: &mut Fields<'_>, criteria: usize) -> Option<Answer
     Some(Answer { pair, side })
 }
 
-/// The answer that a line spells, for so many criteria.
+/// The answer that a line spells, for this number of criteria.
 #[tactic(auto, unfolding(crate::specs::Reading::read_answer))]
 pub(crate) fn answer_of(line: &[u8], criteria: usize) -> Option<Answer>
     ensures { result ≡ read_answer criteria line.now }

@@ -81,7 +81,7 @@ impl Progress {
     }
 }
 
-/// The progress after one more line behind a model.
+/// The progress after one more line of a body.
 fn next_in_body(body: Body, line: &[u8]) -> Result<Progress, Stop>
     ensures next { IfOk result (λ progress. (lines : List (List ℕ)) (stage : Stage) →
         Says lines stage → IsAtStage (Progress.Begun body) stage → GoesOn lines line.now progress) }

@@ -97,7 +97,7 @@ impl Survey {
     }
 }
 
-/// The event that an entry tells, or none where its pair isn't a class.
+/// The event that an entry stands for, or none where its pair isn't a class.
 fn event_of(core: &Core, entry: &Entry) -> Option<Event>
     ensures { MatchOption result
         (NamesNoClass core.now.listed.criteria entry.now)

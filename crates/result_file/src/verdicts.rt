@@ -47,7 +47,7 @@ pub enum Part {
     Unranked,
     /// Its answer isn't the last one.
     Nothing,
-    /// So many answers were withdrawn that the survey may grow too long.
+    /// With one more withdrawal the survey may grow too long.
     Spent,
     /// The scale of its combination is below 1.
     Scale,

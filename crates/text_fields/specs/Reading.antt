@@ -52,7 +52,7 @@ read_certificate text =
     then read_number (certificate_limit - 1) (drop 1 text) >>= negated
     else (read_number (certificate_limit - 1) text >>= λ found. Some (pos found.0, found.1))
 
--- up to `room` further items, each behind a comma
+-- up to `room` further items, each after a comma
 unfoldable pub read_more : {X : Type 0} → (List ℕ → Option (X × List ℕ)) → ℕ → List ℕ → Option (List X × List ℕ)
 read_more item zero text = Some ([], text)
 read_more item (suc room) text =
