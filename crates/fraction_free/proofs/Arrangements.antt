@@ -5,9 +5,9 @@ use Rattle.std.proofs.lemmas.Bool.{cases_eq}
 use Rattle.std.proofs.lemmas.List.FromFn.{length-range_with_len, get_or-range_with_len}
 use Rattle.std.specs.List.{range_with_len}
 use Rattle.std.specs.List.{SwappedAt}
-use Rattle.fraction_free.specs.Arrangement.{IsArrangement, TellsPlaces}
+use Rattle.fraction_free.specs.Arrangement.{IsArrangement, HasPlaces}
 
-pub arrangement_from_places : (order place : List ℕ) → TellsPlaces order place → IsArrangement order
+pub arrangement_from_places : (order place : List ℕ) → HasPlaces order place → IsArrangement order
 arrangement_from_places order place h = record {
   place = λ n. get_or place n 0;
   place_below = h.place_below;
@@ -16,10 +16,10 @@ arrangement_from_places order place h = record {
   back = h.back;
 }
 
-pub swapped_tells : (order place new_order new_place : List ℕ) (p q : ℕ) → TellsPlaces order place → p < length order → q < length order
+pub swapped_tells : (order place new_order new_place : List ℕ) (p q : ℕ) → HasPlaces order place → p < length order → q < length order
     → length new_order ≡ length order → length new_place ≡ length place
     → SwappedAt order new_order p q → SwappedAt place new_place (get_or order p 0) (get_or order q 0)
-    → TellsPlaces new_order new_place
+    → HasPlaces new_order new_place
 swapped_tells order place new_order new_place p q h p_below q_below order_len place_len o l = record {
   len = place_len ∙ h.len ∙ sym order_len;
   place_below = λ n below. subst (λ k. get_or new_place n 0 < k) (sym order_len) (place_case n (subst (λ k. n < k) order_len below)).0;
@@ -72,7 +72,7 @@ swapped_tells order place new_order new_place p q h p_below q_below order_len pl
             (omega (arith, same, h.below at below), ap (λ k. get_or new_place k 0) same ∙ l.2 (get_or order at 0) 0 not_a not_b ∙ h.back at below)
 
 -- the next number at the end
-pub pushed_tells : (order place : List ℕ) → TellsPlaces order place → TellsPlaces (order ++ length order ∷ []) (place ++ length order ∷ [])
+pub pushed_tells : (order place : List ℕ) → HasPlaces order place → HasPlaces (order ++ length order ∷ []) (place ++ length order ∷ [])
 pushed_tells order place h = record {
   len = length_push place n ∙ ap (λ k. k + 1) h.len ∙ sym (length_push order n);
   place_below = λ k below. omega (arith, (place_case k (cases_eq k n) (omega (arith, length_push order n))).0, length_push order n);
@@ -109,8 +109,8 @@ pushed_tells order place h = record {
         (omega (arith, h.below at inside), ap (λ j. get_or (place ++ n ∷ []) j 0) there ∙ get_or_append_left place (n ∷ []) 0 (get_or order at 0) (omega (arith, h.len, h.below at inside)) ∙ h.back at inside)
 
 -- the last number gone, which stood at the end
-pub popped_tells : (order place : List ℕ) → TellsPlaces order place → 0 < length order → get_or order (length order - 1) 0 ≡ length order - 1
-    → TellsPlaces (take (length order - 1) order) (take (length place - 1) place)
+pub popped_tells : (order place : List ℕ) → HasPlaces order place → 0 < length order → get_or order (length order - 1) 0 ≡ length order - 1
+    → HasPlaces (take (length order - 1) order) (take (length place - 1) place)
 popped_tells order place h some end = record {
   len = omega (arith, length-take n order, length-take (length place - 1) place, h.len);
   place_below = λ k below. omega (arith, (place_case k (omega (arith, length-take n order))).0, length-take n order);
@@ -146,7 +146,7 @@ popped_tells order place h some end = record {
         (omega (arith, order_taken at below), ap (λ j. get_or (take (length place - 1) place) j 0) (order_taken at below) ∙ place_taken (get_or order at 0) low ∙ h.back at inside)
 
 -- the first arrangement: 1, 2, .., and then 0
-pub first_tells : (m : ℕ) → TellsPlaces (range_with_len 1 m ++ 0 ∷ []) (m ∷ range_with_len 0 m)
+pub first_tells : (m : ℕ) → HasPlaces (range_with_len 1 m ++ 0 ∷ []) (m ∷ range_with_len 0 m)
 first_tells m = record {
   len = omega (arith, length-range_with_len 0 m, order_len);
   place_below = λ n below. omega (arith, (place_case n (omega (arith, order_len))).0, order_len);

@@ -14,8 +14,8 @@ pub record Arranged : Type 0 where
   pub order : List ℕ
   pub room : ℕ
 
--- `place` gives of each number where it stands
-pub record TellsPlaces (order place : List ℕ) : Type 0 where
+-- `place` has for each number where it stands
+pub record HasPlaces (order place : List ℕ) : Type 0 where
   pub len : length place ≡ length order
   pub place_below : (number : ℕ) → number < length order → slice_index place number < length order
   pub found : (number : ℕ) → number < length order → slice_index order (slice_index place number) ≡ number

@@ -1,5 +1,5 @@
 -- What the calls make of a dictionary.
-use Rattle.std.specs.Prelude.{ℕ, ◌+◌, ◌-◌, ◌^◌, ◌≡◌, ◌≢◌, ◌<◌, ◌⊎◌, min, List, [], ◌∷◌, ◌++◌, length, take, slice_index, slice_index_or, slice_set, ℤ, pos, negsuc, neg_ℤ, ◌-ℤ◌, ◌*ℤ◌}
+use Rattle.std.specs.Prelude.{ℕ, ◌+◌, ◌-◌, ◌^◌, ◌≡◌, ◌≢◌, ◌<◌, ◌⊎◌, min, List, [], ◌∷◌, ◌++◌, length, take, slice_index, slice_set, ℤ, pos, negsuc, neg_ℤ, ◌-ℤ◌, ◌*ℤ◌}
 use Rattle.std.specs.List.{range_with_len, swap_remove}
 use Rattle.row_laws.specs.Rows.{entry}
 use Rattle.fraction_free.specs.declared.loaded.LoadedRow.{LoadedRow}

@@ -1,6 +1,6 @@
 -- How a dictionary keeps what it promises: scale and entries are minors of the table of its variables.
 -- The table has a row for each variable, and a column for each increment and one for the constant 1.
-use Rattle.std.specs.Prelude.{ℕ, ◌+◌, ◌-◌, ◌≡◌, ◌<◌, ◌≤◌, List, [], ◌∷◌, ◌++◌, length, take, drop, map, slice_index, slice_index_or, ℤ, pos, neg_ℤ, ◌+ℤ◌, ◌-ℤ◌, ◌*ℤ◌, ◌≤ℤ◌, ◌≢◌, ◌^◌, unsigned_abs, fold, if◌then◌else◌, ◌==◌, nat_le, nat_lt, slice_set, replicate}
+use Rattle.std.specs.Prelude.{ℕ, ◌+◌, ◌-◌, ◌≡◌, ◌<◌, ◌≤◌, List, [], ◌∷◌, ◌++◌, length, take, drop, map, slice_index, slice_index_or, ℤ, pos, neg_ℤ, ◌+ℤ◌, ◌-ℤ◌, ◌*ℤ◌, ◌≤ℤ◌, ◌≢◌, unsigned_abs, fold, if◌then◌else◌, ◌==◌, nat_le, nat_lt, slice_set, replicate}
 use Rattle.std.specs.List.{range_with_len}
 use Rattle.wide_step.specs.Quotient.{HasQuotient}
 use Rattle.row_laws.specs.Rows.{entry}

@@ -7,7 +7,7 @@ ghost use Rattle.fraction_free.specs.Representation.{CanExchange, AreExchanged};
 
 use crate::limits::{MAX_LINE, NUMBER_BOUND};
 use std::marker::Model;
-use wide_step::Divisor;
+use wide_step::{Divisor, QUOTIENT_BOUND};
 
 /// A list of at most 25 whole numbers: the entries of a row, and its constant.
 #[derive(Drop)]
@@ -28,7 +28,7 @@ impl Model for Line {
 }
 
 impl Line {
-    /// So many zeros.
+    /// `len` zeros.
     pub fn zeros(len: usize) -> Line
         requires { len ≤ MAX_LINE }
         ensures { result ≡ replicate len (pos 0) }
@@ -161,7 +161,7 @@ fn quotient_of(entry: i128, number: i128, factor: i128, other: i128, scale: &Div
     requires other_size { unsigned_abs other < NUMBER_BOUND }
     requires exact { HasQuotient (entry *ℤ number -ℤ factor *ℤ other) scale.now }
     ensures quotient { result *ℤ scale.now ≡ entry *ℤ number -ℤ factor *ℤ other }
-    ensures size { unsigned_abs result < 2 ^ 126 }
+    ensures size { unsigned_abs result < QUOTIENT_BOUND }
 {
     if entry == 1 && scale.number() == 1 {
         return number - factor * other;

@@ -6,7 +6,7 @@ ghost use Rattle.fraction_free.specs.Arrangement.{IsArrangement};
 use std::alloc::{AllocError, Global};
 use std::marker::Model;
 
-/// A list that holds each of the numbers below its length once, and where.
+/// A list that holds each of the numbers below its length once, and where each stands.
 #[derive(Drop)]
 pub struct Places {
     order: Vec<u32>,
@@ -16,13 +16,13 @@ pub struct Places {
 
 impl Model for Places {
     ghost use Rattle.std.specs.Prelude.{◌≡◌, ◌≤◌, length, vec_capacity};
-    ghost use Rattle.fraction_free.specs.Arrangement.{Arranged, TellsPlaces};
+    ghost use Rattle.fraction_free.specs.Arrangement.{Arranged, HasPlaces};
 
     ghost Value = { Arranged };
 
     ghost view = { λ p. record { order = p.order.items; room = p.room } };
 
-    ghost invariant = { λ p. TellsPlaces p.order.items p.place.items
+    ghost invariant = { λ p. HasPlaces p.order.items p.place.items
         × (p.room ≤ vec_capacity p.order) × (p.room ≤ vec_capacity p.place) };
 }
 
@@ -115,7 +115,7 @@ fn append(numbers: &mut Vec<u32>, number: u32)
     let _pushed = numbers.push(number);
 }
 
-/// Appends this many numbers that rise by one.
+/// Appends `count` numbers that rise by one.
 fn count_up(numbers: &mut Vec<u32>, from: u32, count: u32)
     requires room { vec_len numbers.old + count ≤ vec_capacity numbers.old }
     requires small { from + count < 2 ^ 32 }

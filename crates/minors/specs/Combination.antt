@@ -1,5 +1,5 @@
 -- Rows that are, up to a scale, combinations of the rows of a square, and what an exchange of one row of the square makes of their factors: the exact division of fraction-free pivots (Edmonds 1967, Bareiss 1968).
-use Rattle.std.specs.Prelude.{ℕ, ◌<◌, ◌≡◌, ◌≢◌, ℤ, pos, ◌+ℤ◌, ◌-ℤ◌, ◌*ℤ◌, unsigned_abs, List, [], ◌∷◌, length, map}
+use Rattle.std.specs.Prelude.{ℕ, ◌<◌, ◌≡◌, ◌≢◌, ℤ, pos, ◌-ℤ◌, ◌*ℤ◌, unsigned_abs, List, length, map}
 use Rattle.row_laws.specs.Rows.{entry, dot}
 use Rattle.minors.specs.Minor.{minor}
 

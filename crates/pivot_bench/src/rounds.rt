@@ -3,7 +3,7 @@ ghost use Rattle.std.specs.Prelude.{◌≡◌, ◌+◌, ◌<◌, ◌≤◌, ◌^
 
 use criteria_model::Row;
 use fraction_free::Dictionary;
-use wide_step::step;
+use wide_step::{FACTOR_BOUND, step};
 
 /// Which rows a dictionary is filled with.
 #[derive(Clone, Copy)]
@@ -14,7 +14,7 @@ pub enum Rows {
     Largest,
 }
 
-/// Adds this number of rows.
+/// Adds `rows` rows.
 pub fn fill(work: &mut Dictionary, rows: u32, kind: Rows)
     requires room { length work.old.loaded + rows ≤ work.old.room_rows }
     requires columns { work.old.columns ≡ 24 }
@@ -114,8 +114,8 @@ pub fn wide_steps(count: u32) -> u64 {
 
 /// The difference of a number's square and its product with another, divided by the number.
 fn products_apart(number: i128, other: i128) -> i128
-    requires size { unsigned_abs number < 2 ^ 120 }
-    requires other_size { unsigned_abs other < 2 ^ 120 }
+    requires size { unsigned_abs number < FACTOR_BOUND }
+    requires other_size { unsigned_abs other < FACTOR_BOUND }
     requires divisor { 0 < unsigned_abs number }
 {
     step(number, number, other, number, number)

@@ -1,10 +1,9 @@
 -- Laws of whole numbers that quotients rest on: multiples closer than the divisor are equal, and exact quotients and differences come back from bits.
-use Rattle.std.proofs.Common.{◌≡◌, ◌∙◌, ℕ, ◌+◌, ◌*◌, ◌<◌, ◌≤◌, ◌^◌, ℤ, pos, neg_ℤ, ◌+ℤ◌, ◌-ℤ◌, ◌*ℤ◌, zero, suc, refl, unsigned_abs, ap, sym, arith, to_z, of_z, FitsSigned}
-use Rattle.std.proofs.lemmas.Int.{ints, unsigned_abs-mul, to_z-of_z, fits_signed_from_abs, quot-rem, rem_below}
+use Rattle.std.proofs.Common.{◌≡◌, ◌∙◌, ℕ, ◌+◌, ◌*◌, ◌<◌, ◌≤◌, ◌^◌, ℤ, pos, ◌-ℤ◌, ◌*ℤ◌, zero, suc, refl, unsigned_abs, ap, sym, arith, to_z, of_z, FitsSigned}
+use Rattle.std.proofs.lemmas.Int.{ints, unsigned_abs-mul, fits_signed_from_abs, quot-rem, rem_below}
 use Rattle.std.proofs.lemmas.Nat.{mul-lt}
 use Rattle.std.specs.Int.{Width}
 use Rattle.std.specs.Int.RustNames.{int_div}
-use borrow.Author.Differences.{up, down, sum_is_lem, product_is, neg_is, same_in}
 use Rattle.row_laws.proofs.Integers.{sub-mul, zero_of_abs, read_back, unsigned_abs-sub}
 use Rattle.wide_step.specs.Quotient.{HasQuotient}
 use mir.Val.{hbits}

@@ -1,6 +1,7 @@
 -- Inverses modulo powers of two, by which a multiple is divided without a division.
 use Rattle.std.specs.Prelude.{◌≡◌, ◌<◌, ◌^◌, ℕ, ℤ, pos, ◌-ℤ◌, ◌*ℤ◌, ◌≤ℤ◌, unsigned_abs, Option, IfSome}
 use Rattle.std.specs.Int.{Width, w64, w128, int_wrap}
+use Rattle.wide_step.specs.declared.limits.TheConstants.{FACTOR_BOUND}
 use Rattle.wide_step.specs.declared.inverse.Inverse.{Inverse}
 
 -- an odd number times a power of two is the number, and the odd number has these inverses modulo 2 ^ 64 and 2 ^ 128
@@ -19,5 +20,5 @@ pub record IsInverseUpTo (w : Width) (number inverse : ℤ) (modulus : ℕ) : Ty
 -- what a divisor keeps: an inverse of the number, or none
 pub record IsDivisor (number : ℤ) (inverse : Option Inverse) : Type 0 where
   pub positive : pos 1 ≤ℤ number
-  pub size : unsigned_abs number < 2 ^ 120
+  pub size : unsigned_abs number < FACTOR_BOUND
   pub inverse_is : IfSome inverse (λ i. HasInverse number i.twos i.short i.long)

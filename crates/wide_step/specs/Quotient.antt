@@ -1,11 +1,12 @@
 -- What `step` asks of its numbers: the division leaves no remainder, and what it gives is small enough.
 use Rattle.std.specs.Prelude.{◌≡◌, ◌<◌, ◌^◌, ℤ, ◌*ℤ◌, unsigned_abs}
+use Rattle.wide_step.specs.declared.limits.TheConstants.{QUOTIENT_BOUND}
 
--- a whole number times the divisor gives the dividend, and it is below 2 ^ 126 in size
+-- a whole number times the divisor gives the dividend, and it is below the bound of quotients in size
 pub record HasQuotient (dividend divisor : ℤ) : Type 0 where
   pub quotient : ℤ
   pub exact : quotient *ℤ divisor ≡ dividend
-  pub size : unsigned_abs quotient < 2 ^ 126
+  pub size : unsigned_abs quotient < QUOTIENT_BOUND
 
 -- the four factors are below 2 ^ 62 in size
 pub record AreSmall (a b c d : ℤ) : Type 0 where

@@ -1,5 +1,7 @@
 //! Numbers of any size by their quotient and remainder.
-ghost use Rattle.std.specs.Prelude.{◌≡◌, ◌<◌, ◌^◌, ◌*◌, ℤ, pos, neg_ℤ, ◌+ℤ◌, ◌*ℤ◌, unsigned_abs};
+ghost use Rattle.std.specs.Prelude.{◌≡◌, ◌<◌, ◌*◌, ℤ, pos, neg_ℤ, ◌+ℤ◌, ◌*ℤ◌, unsigned_abs};
+
+use crate::limits::FACTOR_BOUND;
 
 /// A whole number by a divisor: the low 128 bits of the quotient, and the remainder.
 #[derive(Clone, Copy)]
@@ -24,7 +26,7 @@ impl Divided {
 
     /// The sum of two numbers.
     fn plus(self, other: Divided, divisor: u128) -> Divided
-        requires room { divisor < 2 ^ 120 }
+        requires room { divisor < FACTOR_BOUND }
         requires below { self.remainder < divisor }
         requires other_below { other.remainder < divisor }
         ensures { (x y : ℤ) → IsDivided x divisor self → IsDivided y divisor other
@@ -65,7 +67,7 @@ impl Divided {
 
     /// The product of two numbers, bit by bit of the second.
     fn product(factor: u128, times: u128, divisor: u128) -> Divided
-        requires room { divisor < 2 ^ 120 }
+        requires room { divisor < FACTOR_BOUND }
         requires divisor { 0 < divisor }
         ensures { IsDivided (pos (factor * times)) divisor result }
     {
@@ -87,7 +89,7 @@ ghost use Rattle.wide_step.specs.Divided.{IsDivided};
 
 /// The product of two signed numbers.
 pub fn signed_product(a: i128, b: i128, divisor: u128) -> Divided
-    requires room { divisor < 2 ^ 120 }
+    requires room { divisor < FACTOR_BOUND }
     requires divisor { 0 < divisor }
     ensures { IsDivided (a *ℤ b) divisor result }
 {

@@ -2,6 +2,7 @@
 ghost use Rattle.std.specs.Prelude.{◌≡◌, ℕ, ◌<◌, ◌^◌, ℤ, pos, ◌*ℤ◌, ◌-ℤ◌, ◌≤ℤ◌, ◌↔◌, unsigned_abs, IsTrue, IfSome};
 
 use crate::inverse::Inverse;
+use crate::limits::{FACTOR_BOUND, QUOTIENT_BOUND};
 use crate::{are_small, small_product, step};
 use std::marker::Model;
 
@@ -36,7 +37,7 @@ impl Divisor {
     /// The divisor with this value. It works out the inverse, once for all steps.
     pub fn of(number: i128) -> Divisor
         requires positive { pos 1 ≤ℤ number }
-        requires size { unsigned_abs number < 2 ^ 120 }
+        requires size { unsigned_abs number < FACTOR_BOUND }
         ensures { result ≡ number }
     {
         let inverse = if number < LONG {
@@ -60,14 +61,14 @@ impl Divisor {
     /// instructions, and fewer where they are below 2^31.
     #[inline]
     pub fn step(&self, a: i128, b: i128, c: i128, d: i128) -> i128
-        requires a_size { unsigned_abs a < 2 ^ 120 }
-        requires b_size { unsigned_abs b < 2 ^ 120 }
-        requires c_size { unsigned_abs c < 2 ^ 120 }
-        requires d_size { unsigned_abs d < 2 ^ 120 }
+        requires a_size { unsigned_abs a < FACTOR_BOUND }
+        requires b_size { unsigned_abs b < FACTOR_BOUND }
+        requires c_size { unsigned_abs c < FACTOR_BOUND }
+        requires d_size { unsigned_abs d < FACTOR_BOUND }
         requires exact { HasQuotient (a *ℤ b -ℤ c *ℤ d) self.now }
 
         ensures quotient { result *ℤ self.now ≡ a *ℤ b -ℤ c *ℤ d }
-        ensures size { unsigned_abs result < 2 ^ 126 }
+        ensures size { unsigned_abs result < QUOTIENT_BOUND }
     {
         if let Some(inverse) = self.inverse {
             if are_short(a, b, c, d) {

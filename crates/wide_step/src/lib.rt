@@ -16,9 +16,11 @@ ghost use Rattle.wide_step.specs.Quotient.{HasQuotient, AreSmall};
 mod divided;
 mod divisor;
 mod inverse;
+mod limits;
 
 use divided::signed_product;
 pub use divisor::Divisor;
+pub use limits::{FACTOR_BOUND, QUOTIENT_BOUND};
 
 /// Factors below this size are multiplied directly: a product is then below 2^124.
 const SMALL: u128 = 1 << 62;
@@ -28,16 +30,16 @@ const SMALL: u128 = 1 << 62;
 /// Where the four factors are below 2^62 in size it takes two products and one division. For many
 /// steps with one divisor there is `Divisor`.
 pub fn step(a: i128, b: i128, c: i128, d: i128, e: i128) -> i128
-    requires a_size { unsigned_abs a < 2 ^ 120 }
-    requires b_size { unsigned_abs b < 2 ^ 120 }
-    requires c_size { unsigned_abs c < 2 ^ 120 }
-    requires d_size { unsigned_abs d < 2 ^ 120 }
-    requires e_size { unsigned_abs e < 2 ^ 120 }
+    requires a_size { unsigned_abs a < FACTOR_BOUND }
+    requires b_size { unsigned_abs b < FACTOR_BOUND }
+    requires c_size { unsigned_abs c < FACTOR_BOUND }
+    requires d_size { unsigned_abs d < FACTOR_BOUND }
+    requires e_size { unsigned_abs e < FACTOR_BOUND }
     requires divisor { 0 < unsigned_abs e }
     requires exact { HasQuotient (a *ℤ b -ℤ c *ℤ d) e }
 
     ensures quotient { result *ℤ e ≡ a *ℤ b -ℤ c *ℤ d }
-    ensures size { unsigned_abs result < 2 ^ 126 }
+    ensures size { unsigned_abs result < QUOTIENT_BOUND }
 {
     if are_small(a, b, c, d) {
         small_step(a, b, c, d, e)
@@ -63,11 +65,11 @@ fn are_small(a: i128, b: i128, c: i128, d: i128) -> bool
 #[inline]
 fn small_step(a: i128, b: i128, c: i128, d: i128, e: i128) -> i128
     requires small { AreSmall a b c d }
-    requires e_size { unsigned_abs e < 2 ^ 120 }
+    requires e_size { unsigned_abs e < FACTOR_BOUND }
     requires divisor { 0 < unsigned_abs e }
     requires exact { HasQuotient (a *ℤ b -ℤ c *ℤ d) e }
     ensures quotient { result *ℤ e ≡ a *ℤ b -ℤ c *ℤ d }
-    ensures size { unsigned_abs result < 2 ^ 126 }
+    ensures size { unsigned_abs result < QUOTIENT_BOUND }
 {
     exact_quotient(small_product(a, b) - small_product(c, d), e)
 }
@@ -84,12 +86,12 @@ fn small_product(a: i128, b: i128) -> i128
 
 /// The quotient of a multiple of the divisor.
 fn exact_quotient(dividend: i128, divisor: i128) -> i128
-    requires dividend_size { unsigned_abs dividend < 2 ^ 126 }
-    requires divisor_size { unsigned_abs divisor < 2 ^ 120 }
+    requires dividend_size { unsigned_abs dividend < QUOTIENT_BOUND }
+    requires divisor_size { unsigned_abs divisor < FACTOR_BOUND }
     requires divisor { 0 < unsigned_abs divisor }
     requires exact { HasQuotient dividend divisor }
     ensures quotient { result *ℤ divisor ≡ dividend }
-    ensures size { unsigned_abs result < 2 ^ 126 }
+    ensures size { unsigned_abs result < QUOTIENT_BOUND }
 {
     if divisor == 1 {
         dividend
@@ -102,15 +104,15 @@ fn exact_quotient(dividend: i128, divisor: i128) -> i128
 
 /// The exact quotient of `a * b - c * d` by a positive divisor, where the products may be wide.
 fn wide_quotient(a: i128, b: i128, c: i128, d: i128, divisor: u128) -> i128
-    requires a_size { unsigned_abs a < 2 ^ 120 }
-    requires b_size { unsigned_abs b < 2 ^ 120 }
-    requires c_size { unsigned_abs c < 2 ^ 120 }
-    requires d_size { unsigned_abs d < 2 ^ 120 }
-    requires divisor_size { divisor < 2 ^ 120 }
+    requires a_size { unsigned_abs a < FACTOR_BOUND }
+    requires b_size { unsigned_abs b < FACTOR_BOUND }
+    requires c_size { unsigned_abs c < FACTOR_BOUND }
+    requires d_size { unsigned_abs d < FACTOR_BOUND }
+    requires divisor_size { divisor < FACTOR_BOUND }
     requires divisor { 0 < divisor }
     requires exact { HasQuotient (a *ℤ b -ℤ c *ℤ d) (pos divisor) }
     ensures quotient { result *ℤ pos divisor ≡ a *ℤ b -ℤ c *ℤ d }
-    ensures size { unsigned_abs result < 2 ^ 126 }
+    ensures size { unsigned_abs result < QUOTIENT_BOUND }
 {
     let first = signed_product(a, b, divisor);
     let second = signed_product(c, d, divisor);
@@ -119,22 +121,22 @@ fn wide_quotient(a: i128, b: i128, c: i128, d: i128, divisor: u128) -> i128
 
 /// The greatest common divisor, never negative; that of 0 and 0 is 0.
 pub fn gcd(a: i128, b: i128) -> i128
-    requires a_size { unsigned_abs a < 2 ^ 126 }
-    requires b_size { unsigned_abs b < 2 ^ 126 }
+    requires a_size { unsigned_abs a < QUOTIENT_BOUND }
+    requires b_size { unsigned_abs b < QUOTIENT_BOUND }
     ensures never_negative { pos 0 ≤ℤ result }
     ensures greatest { IsGcd (unsigned_abs a) (unsigned_abs b) (unsigned_abs result) }
     ensures zero { a ≡ pos 0 → b ≡ pos 0 → result ≡ pos 0 }
-    ensures size { unsigned_abs result < 2 ^ 126 }
+    ensures size { unsigned_abs result < QUOTIENT_BOUND }
 {
     gcd_of_sizes(a.unsigned_abs(), b.unsigned_abs()) as i128
 }
 
 /// The greatest common divisor, by Euclid's algorithm.
 fn gcd_of_sizes(a: u128, b: u128) -> u128
-    requires a_size { a < 2 ^ 126 }
-    requires b_size { b < 2 ^ 126 }
+    requires a_size { a < QUOTIENT_BOUND }
+    requires b_size { b < QUOTIENT_BOUND }
     ensures greatest { IsGcd a b result }
-    ensures size { result < 2 ^ 126 }
+    ensures size { result < QUOTIENT_BOUND }
 {
     let mut x = a;
     let mut y = b;

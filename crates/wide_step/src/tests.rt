@@ -1,4 +1,4 @@
-ghost use Rattle.std.specs.Prelude.{◌≡◌, ◌<◌, ◌^◌, ◌*ℤ◌, ◌-ℤ◌, unsigned_abs};
+ghost use Rattle.std.specs.Prelude.{◌≡◌, ◌<◌, ◌*ℤ◌, ◌-ℤ◌, unsigned_abs};
 ghost use Rattle.wide_step.specs.Quotient.{HasQuotient};
 
 use super::*;
@@ -6,14 +6,14 @@ use std::process::Abort;
 
 /// That the step gives this quotient, and where the divisor is positive so does a kept divisor.
 fn assert_step(rt: &impl Abort, a: i128, b: i128, c: i128, d: i128, e: i128, quotient: i128)
-    requires a_size { unsigned_abs a < 2 ^ 120 }
-    requires b_size { unsigned_abs b < 2 ^ 120 }
-    requires c_size { unsigned_abs c < 2 ^ 120 }
-    requires d_size { unsigned_abs d < 2 ^ 120 }
-    requires e_size { unsigned_abs e < 2 ^ 120 }
+    requires a_size { unsigned_abs a < FACTOR_BOUND }
+    requires b_size { unsigned_abs b < FACTOR_BOUND }
+    requires c_size { unsigned_abs c < FACTOR_BOUND }
+    requires d_size { unsigned_abs d < FACTOR_BOUND }
+    requires e_size { unsigned_abs e < FACTOR_BOUND }
     requires divisor { 0 < unsigned_abs e }
     requires exact { quotient *ℤ e ≡ a *ℤ b -ℤ c *ℤ d }
-    requires size { unsigned_abs quotient < 2 ^ 126 }
+    requires size { unsigned_abs quotient < QUOTIENT_BOUND }
 {
     assert_eq!(rt; step(a, b, c, d, e), quotient);
     if e > 0 {

@@ -1,7 +1,6 @@
 use Rattle.std.proofs.Common.{◌≡◌, ◌∙◌, ◌<◌, ◌^◌, ℤ, to_z, of_z, unsigned_abs, ◌*ℤ◌, ◌-ℤ◌, FitsSigned, refl, sym, arith}
 use Rattle.std.specs.Int.{w128}
 use Rattle.std.proofs.lemmas.Int.{ints, fits_signed_from_abs}
-use Rattle.wide_step.specs.Quotient.{HasQuotient}
 use Rattle.row_laws.proofs.Integers.{read_back}
 use Rattle.wide_step.proofs.Integers.{products_back, has_quotient_along}
 use Rattle.wide_step.proofs.small_step.Goals as goal

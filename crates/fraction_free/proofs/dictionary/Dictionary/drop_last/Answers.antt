@@ -1,7 +1,7 @@
 use Rattle.std.proofs.Common.{◌≡◌, ◌≢◌, ◌∙◌, ◌<◌, ◌+◌, ◌-◌, ℕ, ℤ, pos, List, [], length, take, get_or, inr, sym, ap, subst, arith}
 use Rattle.std.proofs.lemmas.List.{get_or-take}
-use Rattle.fraction_free.specs.Dictionary.{DictionaryView, entry_in}
-use Rattle.fraction_free.specs.Changes.{IsFirstWithEntry, IsPivoted, DropsRow, DropsPivoted, DropsLast}
+use Rattle.fraction_free.specs.Dictionary.{DictionaryView}
+use Rattle.fraction_free.specs.Changes.{IsFirstWithEntry, IsPivoted}
 use Rattle.fraction_free.proofs.DropRow.{found_below}
 use Rattle.fraction_free.proofs.dictionary.Dictionary.drop_last.Goals as goal
 use Rattle.fraction_free.proofs.dictionary.Dictionary.drop_last.Goals.{After-first_row_with-row}
