@@ -1,25 +1,23 @@
 -- A dictionary by variable, to which the laws of the least-index rule apply.
-use Rattle.std.proofs.Common.{◌≡◌, ◌≢◌, ℕ, zero, suc, ◌+◌, ◌-◌, ◌<◌, ◌≤◌, Bool, true, false, cond, List, [], ◌∷◌, ◌++◌, map, length, get_or, set, ◌⊎◌, inl, inr, ℤ, pos, ◌+ℤ◌, ◌-ℤ◌, ◌*ℤ◌, ◌<ℤ◌, ◌≤ℤ◌, refl, sym, ap, subst, ◌∙◌, arith, length-append}
-use Rattle.std.specs.Prelude.{nat_lt, ◌==◌, slice_index, slice_index_or, slice_set, int_lt, not, ◌&&◌}
-use Rattle.std.proofs.Math.IntN.{*ℤ_comm}
+use Rattle.std.proofs.Common.{◌≡◌, ◌≢◌, ℕ, suc, ◌+◌, ◌-◌, ◌<◌, ◌≤◌, Bool, true, false, cond, List, [], ◌∷◌, map, length, get_or, ◌⊎◌, inl, inr, ℤ, pos, ◌+ℤ◌, ◌*ℤ◌, ◌<ℤ◌, refl, sym, ap, ◌∙◌, arith, length-append}
+use Rattle.std.specs.Prelude.{nat_lt, ◌==◌, slice_index, slice_set, int_lt, not, ◌&&◌}
 use Rattle.std.proofs.lemmas.Int.{ints}
-use Rattle.std.proofs.lemmas.Bool.{cond-true, cond-false, cases_Bool, ltb-true, ltb-false, lt-ltb, le-ltb, eqb-true, eqb-false, eq-eqb, true≢false, false≢true, false_from_ne_true, true_from_ne_false, not_from_false, not_from_true}
+use Rattle.std.proofs.lemmas.Bool.{cond-true, cond-false, cases_Bool, ltb-true, lt-ltb, eqb-true, eqb-false, true≢false, false≢true, false_from_ne_true, true_from_ne_false, not_from_false, not_from_true}
 use Rattle.std.proofs.lemmas.List.{length-map, get_or_append_left, get_or-append_right, get_or-map, get_or-set_same, get_or-set_other}
 use Rattle.std.specs.Cmp.Derive.{both_true}
-use Rattle.row_laws.proofs.Integers.{sums, mul-zero, zero-mul}
-use Rattle.row_laws.specs.Rows.{dot, entry}
+use Rattle.row_laws.proofs.Integers.{sums, zero-mul}
+use Rattle.row_laws.specs.Rows.{dot}
 use Rattle.least_index.specs.Dictionary.{RationalDictionary, sum_below, term, right_side}
 use Rattle.least_index.specs.Dictionary as rational
 use Rattle.least_index.specs.Rule.{first, is_infeasible, helps, leaving, entering, is_end, next, pivots_left, Covers}
-use Rattle.least_index.proofs.First.{first-is, first-le}
+use Rattle.least_index.proofs.First.{first-is}
 use Rattle.least_index.proofs.Sums.{sum-ext}
 use Rattle.least_index.proofs.Exchange.{exchange_reflects}
 use Rattle.least_index.proofs.Choice.{and_left, and_right, negative, positive, not_negative, not_positive, choice_is_exchange, next_scale}
 use Rattle.least_index.proofs.Ends.{fall}
 use Rattle.fraction_free.specs.Dictionary.{DictionaryView, line_of, column_variables, IsDictionary, Satisfies, constant_in, entry_in}
-use Rattle.fraction_free.specs.Changes.{IsPivoted}
 use Rattle.simplex.specs.Choice.{IsLeavingRow, IsEnteringColumn}
-use Rattle.simplex.proofs.Positions.{AreDistinct, place_in, place-of, place-found, place-none, placed, sum-placed, dot-sum}
+use Rattle.simplex.proofs.Positions.{place_in, place-of, place-found, placed, sum-placed, dot-sum}
 use Rattle.simplex.proofs.Variables.{HasVariables, variables_of}
 
 abbrev pub row_place : DictionaryView → ℕ → ℕ

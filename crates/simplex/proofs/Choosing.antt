@@ -1,10 +1,10 @@
 -- What the searches for a row and for a weight end with.
-use Rattle.std.proofs.Common.{◌≡◌, ℕ, ◌+◌, ◌-◌, ◌<◌, ◌≤◌, List, length, Option, Some, None, MatchOption, ◌⊎◌, inl, inr, ℤ, pos, ◌<ℤ◌, ◌≤ℤ◌, refl, sym, ap, subst, ◌∙◌, arith, true, false}
-use Rattle.std.specs.Prelude.{slice_index, int_lt}
-use Rattle.std.proofs.lemmas.Int.{ints, by_lt_z}
-use Rattle.fraction_free.specs.Dictionary.{DictionaryView, IsDictionary, constant_in, entry_in}
+use Rattle.std.proofs.Common.{◌≡◌, ℕ, ◌-◌, ◌<◌, ◌≤◌, length, Option, Some, None, MatchOption, ℤ, pos, ◌<ℤ◌, ◌≤ℤ◌, arith}
+use Rattle.std.specs.Prelude.{slice_index}
+use Rattle.std.proofs.lemmas.Int.{by_lt_z}
+use Rattle.fraction_free.specs.Dictionary.{DictionaryView, IsDictionary, constant_in}
 use Rattle.simplex.specs.Choice.{IsFeasible, IsLeavingRow}
-use Rattle.simplex.proofs.Variables.{HasVariables, variables_of}
+use Rattle.simplex.proofs.Variables.{variables_of}
 
 nonneg_if : (a : ℤ) → (a <ℤ pos 0 → ⊥) → pos 0 ≤ℤ a
 nonneg_if a h = by_lt_z a (pos 0) (λ l. absurd (h l)) (λ l. l)

@@ -1,31 +1,22 @@
 -- The weights of a row's equation are a clash, and a clash leaves no vector.
-use Rattle.std.proofs.Common.{◌≡◌, ◌≢◌, ℕ, zero, suc, ◌+◌, ◌-◌, ◌^◌, ◌<◌, ◌≤◌, Bool, true, false, cond, List, [], ◌∷◌, ◌++◌, map, length, get_or, replicate, ◌⊎◌, inl, inr, ℤ, pos, negsuc, neg_ℤ, ◌+ℤ◌, ◌-ℤ◌, ◌*ℤ◌, ◌<ℤ◌, ◌≤ℤ◌, unsigned_abs, refl, sym, ap, subst, ◌∙◌, arith}
-use Rattle.std.specs.Prelude.{nat_lt, ◌==◌, int_lt, All, Any, slice_index, slice_index_or}
-use Rattle.std.specs.List.{range_with_len}
-use Rattle.std.proofs.Math.IntN.{*ℤ_comm}
-use Rattle.std.proofs.lemmas.Int.{ints, by_lt_z}
-use Rattle.std.proofs.lemmas.Bool.{cond-true, cond-false, cases_Bool, ltb-true, ltb-false, lt-ltb, le-ltb, eqb-true, eqb-false, eq-eqb, true≢false, false≢true, false_from_ne_true}
-use Rattle.std.proofs.lemmas.List.{ext_get_or, get_or-map, get_or-replicate, length-map, length-replicate}
+use Rattle.std.proofs.Common.{◌≡◌, ℕ, zero, suc, ◌+◌, ◌-◌, ◌<◌, ◌≤◌, Bool, true, false, cond, List, [], ◌∷◌, length, get_or, ℤ, pos, neg_ℤ, ◌+ℤ◌, ◌-ℤ◌, ◌*ℤ◌, ◌≤ℤ◌, refl, sym, ap, ◌∙◌, arith}
+use Rattle.std.specs.Prelude.{nat_lt, ◌==◌, All, slice_index}
+use Rattle.std.proofs.lemmas.Int.{ints}
+use Rattle.std.proofs.lemmas.Bool.{cond-true, cond-false, ltb-true, lt-ltb, le-ltb, eqb-true, false_from_ne_true}
+use Rattle.std.proofs.lemmas.List.{ext_get_or}
 use Rattle.std.proofs.lemmas.List.FromFn.{get_or-map-range_with_len, length-map-range_with_len}
-use Rattle.std.proofs.lemmas.List.Elements.{All-from_get_or}
-use Rattle.row_laws.proofs.Integers.{sums, mul-add, mul-sub, sub-mul, add-mul, neg-mul, mul-neg, mul_assoc, mul-zero, zero-mul, one-mul}
+use Rattle.row_laws.proofs.Integers.{sums, neg-mul, zero-mul}
 use Rattle.row_laws.specs.Rows.{dot}
 use Rattle.least_index.specs.Dictionary.{sum_below}
-use Rattle.least_index.proofs.Sums.{sum-ext, sum-zero, at_place, sum-at_place}
-use Rattle.row_laws.proofs.Signs.{mul_nonneg}
+use Rattle.least_index.proofs.Sums.{sum-ext}
 use Rattle.fraction_free.specs.declared.loaded.LoadedRow.{LoadedRow}
-use Rattle.fraction_free.specs.Dictionary.{DictionaryView, IsDictionary, Satisfies, HasSlacks, vector_of, slack_of, loaded_at, constant_in, entry_in}
+use Rattle.fraction_free.specs.Dictionary.{DictionaryView, IsDictionary, Satisfies, HasSlacks, vector_of, loaded_at, constant_in, entry_in}
 use Rattle.simplex.specs.declared.row_weights.RowWeight.{RowWeight}
-use Rattle.simplex.specs.declared.found.Clash.{Clash}
-use Rattle.simplex.specs.Weights.{IsRowWeight, AreRowWeights, weighted}
-use Rattle.simplex.specs.Choice.{IsBlocked}
+use Rattle.simplex.specs.Weights.{IsRowWeight, weighted}
 use Rattle.simplex.specs.Equation.{variable_at, weight_at, place_in_equation, weight_of, HasSlackWeights}
-use Rattle.simplex.specs.Rows.{MeetsRows}
-use Rattle.simplex.specs.Results.{IsClash, IsStrictRow, coefficient}
-use Rattle.simplex.proofs.Positions.{place-found, placed, sum-placed, sum-front, dot-sum}
-use Rattle.simplex.proofs.Variables.{HasVariables, variables_of}
+use Rattle.simplex.proofs.Positions.{place-found, placed, sum-placed, sum-front}
 use Rattle.simplex.proofs.ByVariable.{equation_sum}
-use Rattle.simplex.proofs.Equations.{variables_distinct, variable_range, later_variable, later_weight, weight_of-none, weight_of-nonneg}
+use Rattle.simplex.proofs.Equations.{variables_distinct, variable_range, later_variable, later_weight, weight_of-none}
 use Rattle.simplex.proofs.Slacks.{slack_term, sum-skip}
 
 pub sum_neg : (f : ℕ → ℤ) (n : ℕ) → sum_below (λ i. neg_ℤ (f i)) n ≡ neg_ℤ (sum_below f n)

@@ -1,11 +1,11 @@
 -- The places of a row's equation: their variables and weights.
-use Rattle.std.proofs.Common.{◌≡◌, ◌≢◌, ℕ, zero, suc, ◌+◌, ◌-◌, ◌^◌, ◌<◌, ◌≤◌, Bool, true, false, cond, List, length, get_or, take, replicate, ◌⊎◌, inl, inr, ℤ, pos, neg_ℤ, ◌<ℤ◌, ◌≤ℤ◌, unsigned_abs, refl, sym, ap, subst, ◌∙◌, arith}
+use Rattle.std.proofs.Common.{◌≡◌, ◌≢◌, ℕ, ◌+◌, ◌-◌, ◌^◌, ◌<◌, ◌≤◌, true, false, List, length, get_or, take, replicate, ◌⊎◌, inl, inr, ℤ, pos, neg_ℤ, ◌≤ℤ◌, unsigned_abs, refl, sym, ap, subst, ◌∙◌, arith}
 use Rattle.std.specs.Prelude.{slice_index, slice_set, nat_lt, ◌==◌}
 use Rattle.std.proofs.lemmas.Int.{ints}
 use Rattle.std.proofs.lemmas.List.{get_or-take}
 use Rattle.row_laws.proofs.Integers.{unsigned_abs-neg}
-use Rattle.std.proofs.lemmas.Bool.{cond-true, cond-false, cases_Bool, eqb-true, eqb-false, eq-eqb, ltb-true, ltb-false, lt-ltb, false_from_ne_true}
-use Rattle.fraction_free.specs.Dictionary.{DictionaryView, IsDictionary, entry_in, constant_in}
+use Rattle.std.proofs.lemmas.Bool.{cond-true, cond-false, cases_Bool, eqb-true, eqb-false, ltb-true, ltb-false, lt-ltb, false_from_ne_true}
+use Rattle.fraction_free.specs.Dictionary.{DictionaryView, IsDictionary, entry_in}
 use Rattle.simplex.specs.Choice.{IsBlocked}
 use Rattle.simplex.specs.Equation.{variable_at, weight_at, place_in_equation, weight_of}
 use Rattle.simplex.proofs.Positions.{AreDistinct, place-of, place-found, place-none}

@@ -1,17 +1,14 @@
 -- The vector of a feasible dictionary meets its rows.
-use Rattle.std.proofs.Common.{◌≡◌, ◌≢◌, ℕ, zero, suc, ◌+◌, ◌-◌, ◌^◌, ◌<◌, ◌≤◌, Bool, true, false, cond, List, [], ◌∷◌, map, length, get_or, take, replicate, ◌⊎◌, inl, inr, ℤ, pos, negsuc, ◌+ℤ◌, ◌-ℤ◌, ◌*ℤ◌, ◌<ℤ◌, ◌≤ℤ◌, unsigned_abs, refl, sym, ap, subst, ◌∙◌, arith, below_more}
-use Rattle.std.specs.Prelude.{All, ◌==◌, slice_index, slice_index_or, slice_set}
-use Rattle.std.specs.List.{range_with_len}
+use Rattle.std.proofs.Common.{◌≡◌, ◌≢◌, ℕ, zero, suc, ◌+◌, ◌-◌, ◌<◌, ◌≤◌, Bool, true, false, cond, List, [], ◌∷◌, length, get_or, take, replicate, ◌⊎◌, inl, inr, ℤ, pos, negsuc, ◌+ℤ◌, ◌-ℤ◌, ◌*ℤ◌, ◌<ℤ◌, ◌≤ℤ◌, refl, sym, ap, subst, ◌∙◌, arith}
+use Rattle.std.specs.Prelude.{All, slice_index, slice_set}
 use Rattle.std.proofs.Math.IntN.{*ℤ_comm}
 use Rattle.std.proofs.lemmas.Int.{ints}
-use Rattle.std.proofs.lemmas.Bool.{cond-true, cond-false, cases_Bool, eqb-true, eqb-false}
-use Rattle.std.proofs.lemmas.List.{ext_get_or, get_or-map, get_or-take, get_or-set_same, get_or-set_other, length-map, length-take-le}
+use Rattle.std.proofs.lemmas.Bool.{cond-true, cond-false}
+use Rattle.std.proofs.lemmas.List.{ext_get_or, get_or-take, length-map}
 use Rattle.std.proofs.lemmas.List.FromFn.{get_or-map-range_with_len, length-map-range_with_len}
 use Rattle.std.proofs.lemmas.List.Elements.{All-from_get_or}
-use Rattle.row_laws.proofs.Integers.{sums, mul-add, mul_assoc, mul_left_comm, mul-zero, zero-mul, one-mul}
-use Rattle.criteria_model.specs.Lists.{IsVector}
+use Rattle.row_laws.proofs.Integers.{sums, mul-add, mul_left_comm, mul-zero, zero-mul, one-mul}
 use Rattle.row_laws.specs.Rows.{dot, times}
-use Rattle.fraction_free.specs.declared.loaded.LoadedRow.{LoadedRow}
 use Rattle.fraction_free.specs.Dictionary.{DictionaryView, IsDictionary, Satisfies, HasSlacks, vector_of, slack_of, loaded_at, constant_in}
 use Rattle.row_laws.proofs.Signs.{mul_neg}
 use Rattle.least_index.proofs.Choice.{basic_solution, basic_solution_satisfies}

@@ -1,12 +1,12 @@
 -- Sums over variables, where each of some places has a variable of its own.
-use Rattle.std.proofs.Common.{◌≡◌, ◌≢◌, ℕ, zero, suc, ◌+◌, ◌-◌, ◌<◌, ◌≤◌, Bool, true, false, cond, List, [], ◌∷◌, ◌++◌, map, length, get_or, ◌⊎◌, inl, inr, ℤ, pos, ◌+ℤ◌, ◌-ℤ◌, ◌*ℤ◌, refl, sym, ap, ◌∙◌, arith}
+use Rattle.std.proofs.Common.{◌≡◌, ◌≢◌, ℕ, zero, suc, ◌+◌, ◌<◌, ◌≤◌, Bool, true, false, cond, List, [], ◌∷◌, length, get_or, ℤ, pos, ◌+ℤ◌, ◌*ℤ◌, refl, sym, ap, ◌∙◌, arith}
 use Rattle.std.specs.Prelude.{nat_lt, ◌==◌}
-use Rattle.std.proofs.lemmas.Bool.{cond-true, cond-false, cases_Bool, ltb-true, ltb-false, lt-ltb, le-ltb, eqb-true, eqb-false, eq-eqb, true≢false, false≢true, false_from_ne_true}
-use Rattle.row_laws.proofs.Integers.{sums, mul-zero, zero-mul}
+use Rattle.std.proofs.lemmas.Bool.{cond-true, cond-false, ltb-true, ltb-false, lt-ltb, le-ltb, eqb-true, eqb-false, eq-eqb, true≢false, false_from_ne_true}
+use Rattle.row_laws.proofs.Integers.{sums}
 use Rattle.row_laws.specs.Rows.{dot}
 use Rattle.least_index.specs.Dictionary.{sum_below}
 use Rattle.least_index.specs.Rule.{first}
-use Rattle.least_index.proofs.First.{first-le, first-below, first-passes, first-is}
+use Rattle.least_index.proofs.First.{first-below, first-passes, first-is}
 use Rattle.least_index.proofs.Sums.{sum-ext, sum-zero, at_place, sum-at_place}
 
 -- the places below m have different variables

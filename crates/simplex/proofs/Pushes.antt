@@ -1,10 +1,9 @@
 -- A row more in a list of weighted rows.
-use Rattle.std.proofs.Common.{◌≡◌, ◌≢◌, ℕ, zero, suc, ◌+◌, ◌-◌, ◌^◌, ◌<◌, ◌≤◌, true, false, List, [], ◌∷◌, ◌++◌, map, length, get_or, take, drop, set, replicate, ◌⊎◌, inl, inr, ℤ, pos, ◌<ℤ◌, unsigned_abs, refl, sym, ap, subst, ◌∙◌, arith}
+use Rattle.std.proofs.Common.{◌≡◌, ◌≢◌, ℕ, zero, suc, ◌+◌, ◌-◌, ◌<◌, true, false, List, [], ◌∷◌, ◌++◌, map, length, get_or, take, drop, replicate, ◌⊎◌, inl, inr, refl, sym, ap, subst, ◌∙◌, arith}
 use Rattle.std.specs.Prelude.{All, ◌==◌, slice_index, slice_set}
-use Rattle.std.specs.List.Sorted.{IsStrictlyIncreasing}
 use Rattle.std.proofs.lemmas.Bool.{cases_Bool, eqb-true, eqb-false}
-use Rattle.std.proofs.lemmas.List.{ext_get_or, get_or-map, get_or-replicate, get_or-drop, get_or_append_left, get_or-append_right, length-append, length-map, length-set, length-drop, length-replicate, length-take-le, take_more_set, drop-set-lt}
-use Rattle.std.proofs.lemmas.List.Elements.{All-append, All-from_get_or, All-get_or}
+use Rattle.std.proofs.lemmas.List.{ext_get_or, get_or-map, get_or-replicate, get_or-drop, get_or_append_left, get_or-append_right, length-append, length-map, length-set, length-drop, length-replicate, take_more_set, drop-set-lt}
+use Rattle.std.proofs.lemmas.List.Elements.{All-append, All-from_get_or}
 use Rattle.simplex.specs.declared.row_weights.RowWeight.{RowWeight}
 use Rattle.simplex.specs.Weights.{IsRowWeight, AreRowWeights, no_weight}
 use Rattle.row_laws.specs.Padded.{IsPadded, length-padded}

@@ -1,5 +1,5 @@
 -- A list over its greatest common divisor.
-use Rattle.std.proofs.Common.{◌≡◌, ◌≢◌, ℕ, zero, suc, ◌+◌, ◌-◌, ◌*◌, ◌/◌, ◌^◌, ◌<◌, ◌≤◌, List, [], ◌∷◌, map, length, get_or, set, take, ℤ, pos, negsuc, neg_ℤ, ◌*ℤ◌, ◌<ℤ◌, ◌≤ℤ◌, unsigned_abs, FitsSigned, to_z, of_z, refl, sym, ap, subst, ◌∙◌, arith, mul-le-mul_left, below_more}
+use Rattle.std.proofs.Common.{◌≡◌, ℕ, zero, suc, ◌+◌, ◌*◌, ◌/◌, ◌^◌, ◌<◌, ◌≤◌, List, length, get_or, take, ℤ, pos, negsuc, neg_ℤ, ◌*ℤ◌, ◌≤ℤ◌, unsigned_abs, FitsSigned, to_z, of_z, refl, sym, ap, subst, ◌∙◌, arith, mul-le-mul_left, below_more}
 use mir.Syntax.{w128}
 use lib.Signed.{quot_z}
 use Rattle.std.specs.Prelude.{All, slice_set}
@@ -14,7 +14,7 @@ use borrow.Author.Differences.{product_is}
 use Rattle.row_laws.proofs.Integers.{mul-neg}
 use Rattle.criteria_model.specs.Lists.{IsVector}
 use Rattle.row_laws.specs.Rows.{times}
-use Rattle.row_laws.proofs.Signs.{mul_nonpos, mul_nonneg, nonneg_of_pos}
+use Rattle.row_laws.proofs.Signs.{mul_nonpos}
 use Rattle.simplex.specs.Rows.{IsCoprime}
 use Rattle.simplex.proofs.Sizes.{kept, fits}
 

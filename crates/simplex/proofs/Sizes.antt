@@ -1,11 +1,10 @@
 -- Sizes of a dictionary's numbers, and what a cast does to them.
-use Rattle.std.proofs.Common.{◌≡◌, ℕ, ◌+◌, ◌-◌, ◌*◌, ◌^◌, ◌<◌, ◌≤◌, List, length, ℤ, pos, neg_ℤ, ◌+ℤ◌, ◌-ℤ◌, ◌<ℤ◌, ◌≤ℤ◌, unsigned_abs, FitsSigned, SFits, to_z, of_z, refl, sym, ap, subst, ◌∙◌, arith}
+use Rattle.std.proofs.Common.{◌≡◌, ℕ, ◌^◌, ◌<◌, ◌≤◌, length, ℤ, pos, neg_ℤ, ◌+ℤ◌, ◌-ℤ◌, unsigned_abs, FitsSigned, to_z, of_z, sym, ap, subst, ◌∙◌, arith}
 use mir.Syntax.{w128}
-use Rattle.std.specs.Prelude.{slice_index_or}
-use Rattle.std.proofs.lemmas.Int.{ints, fits_signed_from_abs, to_z-of_z}
+use Rattle.std.proofs.lemmas.Int.{fits_signed_from_abs, to_z-of_z}
 use Rattle.minors.proofs.Laws.{bound_is_small}
 use Rattle.row_laws.proofs.Integers.{unsigned_abs-add, unsigned_abs-neg, sums}
-use Rattle.fraction_free.specs.Dictionary.{DictionaryView, IsDictionary, constant_in, entry_in}
+use Rattle.fraction_free.specs.Dictionary.{DictionaryView, IsDictionary, entry_in}
 
 -- a number below 2^126 in size is kept by a cast
 pub kept : (x : ℤ) → unsigned_abs x < 2 ^ 126 → to_z w128 (of_z w128 x) ≡ x

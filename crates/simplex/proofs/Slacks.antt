@@ -1,18 +1,18 @@
 -- The slacks with a positive weight, in ascending order.
-use Rattle.std.proofs.Common.{◌≡◌, ◌≢◌, ℕ, zero, suc, ◌+◌, ◌-◌, ◌^◌, ◌<◌, ◌≤◌, Bool, true, false, cond, ◌&&◌, List, [], ◌∷◌, ◌++◌, length, get_or, ◌⊎◌, inl, inr, ℤ, pos, negsuc, ◌+ℤ◌, ◌*ℤ◌, ◌<ℤ◌, ◌≤ℤ◌, unsigned_abs, refl, sym, ap, subst, ◌∙◌, arith}
+use Rattle.std.proofs.Common.{◌≡◌, ◌≢◌, ℕ, zero, suc, ◌+◌, ◌-◌, ◌^◌, ◌<◌, ◌≤◌, Bool, true, false, cond, ◌&&◌, List, [], ◌∷◌, ◌++◌, length, ◌⊎◌, inl, inr, ℤ, pos, negsuc, ◌+ℤ◌, ◌*ℤ◌, ◌<ℤ◌, ◌≤ℤ◌, unsigned_abs, refl, sym, ap, subst, ◌∙◌, arith}
 use Rattle.std.specs.Prelude.{nat_lt, ◌==◌, int_lt, All}
 use Rattle.std.proofs.lemmas.Int.{ints}
-use Rattle.std.proofs.lemmas.Bool.{cond-true, cond-false, cases_Bool, ltb-true, ltb-false, lt-ltb, le-ltb, eqb-true, eqb-false, true≢false, false≢true, false_from_ne_true, true_from_ne_false}
+use Rattle.std.proofs.lemmas.Bool.{cond-true, cond-false, cases_Bool, ltb-true, lt-ltb, le-ltb, eqb-true, eqb-false, true≢false, false≢true, false_from_ne_true, true_from_ne_false}
 use Rattle.std.proofs.lemmas.List.{length-append}
-use Rattle.std.proofs.lemmas.List.Elements.{All-append, All-from_get_or, All-get_or}
+use Rattle.std.proofs.lemmas.List.Elements.{All-append}
 use Rattle.std.specs.Cmp.Derive.{both_true}
-use Rattle.row_laws.proofs.Integers.{sums, mul-zero, zero-mul}
+use Rattle.row_laws.proofs.Integers.{sums, zero-mul}
 use Rattle.least_index.specs.Dictionary.{sum_below}
 use Rattle.least_index.proofs.Sums.{sum-suc, sum-zero}
-use Rattle.least_index.proofs.Choice.{and_left, and_right, positive, not_positive}
+use Rattle.least_index.proofs.Choice.{and_left, and_right, not_positive}
 use Rattle.fraction_free.specs.Dictionary.{DictionaryView, IsDictionary}
 use Rattle.simplex.specs.declared.row_weights.RowWeight.{RowWeight}
-use Rattle.simplex.specs.Weights.{IsRowWeight, AreRowWeights, weighted}
+use Rattle.simplex.specs.Weights.{AreRowWeights, weighted}
 use Rattle.simplex.specs.Choice.{IsBlocked}
 use Rattle.simplex.specs.Equation.{variable_at, weight_at, weight_of, how_many, has_slack, IsNextWeight, HasNoNextWeight, HasSlackWeights}
 use Rattle.simplex.proofs.Pushes.{one_item, rows_more}

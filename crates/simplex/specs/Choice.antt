@@ -1,5 +1,5 @@
 -- The least-index rule on a dictionary (Bland 1977). Rows and columns are counted from 0.
-use Rattle.std.specs.Prelude.{ℕ, ◌<◌, ◌≤◌, List, length, slice_index, ℤ, pos, ◌<ℤ◌, ◌≤ℤ◌}
+use Rattle.std.specs.Prelude.{ℕ, ◌<◌, ◌≤◌, length, slice_index, pos, ◌<ℤ◌, ◌≤ℤ◌}
 use Rattle.fraction_free.specs.Dictionary.{DictionaryView, entry_in, constant_in}
 use Rattle.fraction_free.specs.Changes.{IsPivoted}
 

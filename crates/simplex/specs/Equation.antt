@@ -1,5 +1,5 @@
 -- A row's equation, with all variables on one side: places from 0 on have the basic variable and then the nonbasic ones.
-use Rattle.std.specs.Prelude.{ℕ, zero, suc, ◌+◌, ◌-◌, ◌≡◌, ◌≢◌, ◌<◌, ◌≤◌, Bool, cond, ◌==◌, nat_lt, List, length, slice_index, slice_index_or, ℤ, pos, neg_ℤ, ◌*ℤ◌, ◌<ℤ◌}
+use Rattle.std.specs.Prelude.{ℕ, zero, suc, ◌+◌, ◌-◌, ◌≡◌, ◌<◌, ◌≤◌, Bool, cond, ◌==◌, nat_lt, List, length, slice_index, slice_index_or, ℤ, pos, neg_ℤ, ◌*ℤ◌, ◌<ℤ◌}
 use Rattle.least_index.specs.Dictionary.{sum_below}
 use Rattle.least_index.specs.Rule.{first}
 use Rattle.fraction_free.specs.Dictionary.{DictionaryView, entry_in}

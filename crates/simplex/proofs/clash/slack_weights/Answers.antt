@@ -1,6 +1,5 @@
-use Rattle.std.proofs.Common.{◌≡◌, ℕ, ◌-◌, ◌<◌, ◌^◌, ℤ, List, [], length, unsigned_abs, to_z, of_z, refl, sym, ap, subst, ◌∙◌, arith}
+use Rattle.std.proofs.Common.{◌-◌, ◌<◌, ◌^◌, ℤ, unsigned_abs, to_z, of_z, sym, subst, ◌∙◌, arith}
 use mir.Syntax.{w128}
-use Rattle.fraction_free.specs.Dictionary.{IsDictionary}
 use Rattle.simplex.proofs.Sizes.{kept}
 use Rattle.simplex.proofs.Equations.{weight_small}
 use Rattle.simplex.proofs.Slacks.{SlacksSoFar, slacks_none, slacks_more, slacks_done, slack_room, slacks_few, remaining_falls}

@@ -1,7 +1,6 @@
-use Rattle.std.proofs.Common.{◌≡◌, ℕ, ◌+◌, ◌-◌, ◌<◌, ◌≤◌, ◌^◌, ℤ, pos, neg_ℤ, length, unsigned_abs, to_z, of_z, refl, sym, ap, subst, ◌∙◌, arith}
+use Rattle.std.proofs.Common.{◌-◌, ◌<◌, ◌^◌, ℤ, neg_ℤ, unsigned_abs, sym, ap, subst, ◌∙◌, arith}
 use Rattle.row_laws.proofs.Integers.{unsigned_abs-neg}
-use Rattle.fraction_free.specs.Dictionary.{IsDictionary, entry_in}
-use Rattle.simplex.proofs.Variables.{HasVariables, variables_of}
+use Rattle.simplex.proofs.Variables.{variables_of}
 use Rattle.simplex.proofs.Sizes.{kept, entry_small, scale_small, negated_is, negated_fits}
 use Rattle.simplex.proofs.Equations.{later_weight}
 use Rattle.simplex.proofs.clash.weighted_variable.Goals as goal

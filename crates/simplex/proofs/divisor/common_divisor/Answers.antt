@@ -1,4 +1,4 @@
-use Rattle.std.proofs.Common.{◌≡◌, ℕ, ℤ, pos, ◌≤ℤ◌, ◌<◌, ◌^◌, get_or, unsigned_abs, to_z, of_z, refl, sym, subst, arith}
+use Rattle.std.proofs.Common.{◌≡◌, ℤ, pos, ◌≤ℤ◌, ◌<◌, ◌^◌, get_or, unsigned_abs, to_z, of_z, sym, subst, arith}
 use mir.Syntax.{w128}
 use Rattle.std.specs.Int.{◌∣◌}
 use Rattle.std.proofs.lemmas.List.Elements.{All-from_get_or}

@@ -1,4 +1,4 @@
-use Rattle.std.proofs.Common.{◌≡◌, List, ℤ, pos, ◌≤ℤ◌, sym, subst, ◌∙◌}
+use Rattle.std.proofs.Common.{List, ℤ, pos, ◌≤ℤ◌, sym, subst, ◌∙◌}
 use Rattle.std.specs.Prelude.{All}
 use Rattle.simplex.proofs.Points.{scaled_positive, point_meets}
 use Rattle.simplex.proofs.point.point_of.Goals as goal

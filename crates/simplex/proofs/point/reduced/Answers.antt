@@ -1,5 +1,4 @@
-use Rattle.std.proofs.Common.{◌≡◌, ◌^◌, ◌<◌, ℤ, pos, ◌≤ℤ◌, unsigned_abs, to_z, of_z, sym, ap, subst, ◌∙◌}
-use mir.Syntax.{w128}
+use Rattle.std.proofs.Common.{ℤ, pos, ◌≤ℤ◌, unsigned_abs, sym, ap, subst, ◌∙◌}
 use Rattle.std.specs.Prelude.{All}
 use Rattle.std.specs.Int.{◌∣◌}
 use Rattle.row_laws.specs.Rows.{times}

@@ -1,4 +1,4 @@
-use Rattle.std.proofs.Common.{◌≡◌, ℕ, ◌+◌, ◌-◌, ◌<◌, ◌^◌, ℤ, ◌+ℤ◌, unsigned_abs, to_z, of_z, refl, sym, ap, subst, ◌∙◌, arith, take}
+use Rattle.std.proofs.Common.{◌≡◌, ℕ, ◌+◌, ◌-◌, ◌<◌, ◌^◌, ℤ, ◌+ℤ◌, unsigned_abs, to_z, of_z, sym, ap, subst, ◌∙◌, arith, take}
 use mir.Syntax.{w128}
 use Rattle.std.specs.Prelude.{slice_index}
 use Rattle.criteria_model.specs.Lists.{IsVector}

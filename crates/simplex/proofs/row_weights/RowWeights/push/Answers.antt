@@ -1,8 +1,6 @@
 use Rattle.std.proofs.Common.{◌≡◌, ℤ, to_z, of_z, ap}
 use mir.Syntax.{w128}
 use Rattle.std.proofs.lemmas.Int.{to_z-of_z}
-use Rattle.simplex.specs.declared.row_weights.RowWeight.{RowWeight}
-use Rattle.simplex.proofs.Sizes.{kept}
 use Rattle.simplex.proofs.Pushes.{pushed}
 use Rattle.simplex.proofs.row_weights.RowWeights.push.Goals as goal
 
