@@ -1,6 +1,5 @@
 pub mod Numerals
 pub mod ListSteps
-pub mod SignedCells
 pub mod NumberLaws
 pub mod ListLaws
 pub mod WordLaws

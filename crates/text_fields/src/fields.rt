@@ -1,4 +1,4 @@
-ghost use Rattle.std.specs.Prelude.{◌≡◌, ◌↔◌, ℕ, ◌-◌, ◌^◌, ◌<◌, ◌≤◌, List, [], ◌++◌, length, drop, IsTrue, IfNone, IfSome, if◌then◌else◌};
+ghost use Rattle.std.specs.Prelude.{◌≡◌, ◌↔◌, ℕ, ◌-◌, ◌^◌, ◌<◌, ◌≤◌, List, [], ◌++◌, length, drop, Option, IsTrue, IfNone, IfSome, if◌then◌else◌};
 ghost use Rattle.text_fields.specs.Spelling.{IsCertificate, is_next};
 ghost use Rattle.text_fields.specs.Reading.{ReadsAs, ReadsListAs, read_word, read_number, read_certificate, read_list};
 
@@ -106,13 +106,7 @@ impl<'a> Fields<'a> {
         requires { 0 < length cells.old }
         ensures exact { ReadsListAs result cells.new self.new (read_list (read_number most) (length cells.old) self.old) }
     {
-        cells[0] = self.number(most)?;
-        let mut count = 1;
-        while count < cells.len() && self.skip(b',') {
-            cells[count] = self.number(most)?;
-            count += 1;
-        }
-        Some(count)
+        self.list(most, cells)
     }
 
     /// Reads a number up to `most`.
@@ -129,13 +123,7 @@ impl<'a> Fields<'a> {
         requires { 0 < length cells.old }
         ensures exact { ReadsListAs result cells.new self.new (read_list (read_number most) (length cells.old) self.old) }
     {
-        cells[0] = self.small_number(most)?;
-        let mut count = 1;
-        while count < cells.len() && self.skip(b',') {
-            cells[count] = self.small_number(most)?;
-            count += 1;
-        }
-        Some(count)
+        self.list(most, cells)
     }
 
     /// Reads certificate numbers as [`Fields::numbers`] does.
@@ -143,12 +131,54 @@ impl<'a> Fields<'a> {
         requires { 0 < length cells.old }
         ensures exact { ReadsListAs result cells.new self.new (read_list read_certificate (length cells.old) self.old) }
     {
-        cells[0] = self.certificate()?;
+        self.list(0, cells)
+    }
+
+    /// Reads items joined by commas into the front of `cells`.
+    fn list<T: Item>(&mut self, most: T, cells: &mut [T]) -> Option<usize>
+        requires { 0 < length cells.old }
+        ensures exact { ReadsListAs result cells.new self.new (read_list (T.reads most) (length cells.old) self.old) }
+    {
+        cells[0] = T::next(self, most)?;
         let mut count = 1;
         while count < cells.len() && self.skip(b',') {
-            cells[count] = self.certificate()?;
+            cells[count] = T::next(self, most)?;
             count += 1;
         }
         Some(count)
+    }
+}
+
+/// What the items of a list are.
+trait Item: Copy {
+    // What reads an item, where it has a limit up to this one.
+    ghost reads: { Self → List ℕ → Option (Self × List ℕ) };
+
+    /// Reads an item from the front.
+    fn next(fields: &mut Fields<'_>, most: Self) -> Option<Self>
+        ensures { ReadsAs result fields.new (reads most fields.old) };
+}
+
+impl Item for u32 {
+    ghost reads = { λ most. read_number most };
+
+    fn next(fields: &mut Fields<'_>, most: u32) -> Option<u32> {
+        fields.number(most)
+    }
+}
+
+impl Item for u8 {
+    ghost reads = { λ most. read_number most };
+
+    fn next(fields: &mut Fields<'_>, most: u8) -> Option<u8> {
+        fields.small_number(most)
+    }
+}
+
+impl Item for i128 {
+    ghost reads = { λ _. read_certificate };
+
+    fn next(fields: &mut Fields<'_>, _most: i128) -> Option<i128> {
+        fields.certificate()
     }
 }
