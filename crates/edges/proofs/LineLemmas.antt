@@ -28,7 +28,7 @@ NoneBelow-take text n none i below within =
 part-at : (text : List ℕ) (start end k : ℕ) → k < end - start → slice_index (slice_range text start end) k ≡ slice_index text (start + k)
 part-at text start end k lt = get_or-take (end - start) (drop start text) k 0 lt ∙ get_or-drop start text k 0
 
--- no line end stands in the bytes searched before, nor in the first bytes of the part behind them
+-- no line end stands in the bytes searched before, nor in the first bytes of the part after them
 none_between : (text : List ℕ) (searched end stop : ℕ)
     → HasNoLineEnd (take searched text) → searched + stop ≤ end
     → Nowhere (Passes (is_byte line_end) (slice_range text searched end)) 0 stop

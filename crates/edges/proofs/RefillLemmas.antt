@@ -15,7 +15,7 @@ take-copy_within old start end within =
     let fits : k ≤ length (drop start old) = omega (arith, length-drop start old) in
     take_at (slice_range old start end) (drop (0 + k) old) k (length-take-le k (drop start old) fits)
 
--- the bytes kept stand at the front of the buffer, and n bytes of the source were taken behind them
+-- the bytes kept stand at the front of the buffer, and n bytes of the source were taken after them
 pub refilled : (kept moved new : List ℕ) (k n : ℕ) (before now : Option (List ℕ))
     → take k moved ≡ kept
     → take k new ≡ take k moved

@@ -12,7 +12,7 @@ use Rattle.edges.proofs.LineLaws.{HasLineEnd-line, HasNoLineEnd-not, first_line-
 cons_rest : {X : Type 0} (x y : X) (xs ys : List X) → x ∷ xs ≡ y ∷ ys → xs ≡ ys
 cons_rest x y xs ys same = cc
 
--- a text that begins with a line begins with it alone
+-- a text that begins with a line begins with no other
 pub line_once : (line other rest other_rest : List ℕ) → HasNoLineEnd line → HasNoLineEnd other
     → line ++ line_end ∷ rest ≡ other ++ line_end ∷ other_rest → (line ≡ other) × (rest ≡ other_rest)
 line_once line other rest other_rest unbroken other_unbroken same =

@@ -1,4 +1,4 @@
--- Bytes that an end may tell.
+-- Bytes that an end may show.
 use Rattle.std.proofs.Common.{◌≡◌, ℕ, ◌+◌, List, [], ◌++◌, ◌-◌, length, take, drop, sym, ap, subst, ◌∙◌, refl, append_assoc}
 use Rattle.std.specs.Prelude.{Option, Some, None}
 use Rattle.std.specs.Io.KnownBytes.{prepend_known}
@@ -6,12 +6,12 @@ use Rattle.std.proofs.lemmas.List.{append-nil, take_rest}
 use Rattle.edges.specs.Told.{Appends}
 use Rattle.edges.proofs.PartLemmas.{take-add}
 
--- bytes before told bytes, in two parts
+-- bytes before shown bytes, in two parts
 pub prepend_known-append : (xs ys : List ℕ) (told : Option (List ℕ)) → prepend_known (xs ++ ys) told ≡ prepend_known xs (prepend_known ys told)
 prepend_known-append xs ys None = refl
 prepend_known-append xs ys (Some zs) = ap Some (append_assoc xs ys zs)
 
--- no bytes before told bytes
+-- no bytes before shown bytes
 pub prepend_known-nil : (told : Option (List ℕ)) → prepend_known [] told ≡ told
 prepend_known-nil None = refl
 prepend_known-nil (Some zs) = refl

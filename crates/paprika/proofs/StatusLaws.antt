@@ -44,7 +44,7 @@ settling : (told : Option (List ℕ)) → IsToldChecked told ValidComplete → I
 settling None checked = tt
 settling (Some text) checked = (checked.0, checked.1, (worth text ValidComplete checked).1 checked.0 checked.1)
 
--- what was put behind a text
+-- what was put after a text
 put_behind : (before now : Option (List ℕ)) (text full line : List ℕ) → before ≡ Some text → now ≡ Some (text ++ full) → Appends before now line → line ≡ full
 put_behind before now text full line was is h =
     let one : IfSome (Some (text ++ full)) (λ whole. append_known before line ≡ Some whole) = subst (λ (o : Option (List ℕ)). IfSome o (λ whole. append_known before line ≡ Some whole)) is h in

@@ -41,7 +41,7 @@ module _ (p q : ℕ → Bool) where
       let rest = count_same xs (λ k l. same (suc k) (omega arith)) in
       omega (arith, sum_by-cons (λ y. cond (p y) 1 0) x xs, sum_by-cons (λ y. cond (q y) 1 0) x xs)
 
-  -- where p implies q, and one item passes q alone
+  -- where p implies q, and one item passes only q
   count_less : (xs : List ℕ) (k : ℕ) → k < length xs → ((x : ℕ) → p x ≡ true → q x ≡ true) → p (get_or xs k 0) ≡ false → q (get_or xs k 0) ≡ true
       → count_by p xs < count_by q xs
   count_less [] k l imp fails passes = absurd (omega arith)

@@ -128,7 +128,7 @@ right_claim_holds criteria before claim part right h =
 
 -- ---- an entry
 
--- an entry that tells an event of a class names one
+-- an entry that stands for an event of a class names one
 tells_a_class : (listed : Listed) (event : Event) → IsListed listed → NamesClass listed event → ¬ NamesNoClass listed.criteria (as_entry listed.classes event)
 tells_a_class listed (events.Eliminate worker place verdict combination) list named none = none (is_class_there listed place list named)
 tells_a_class listed (events.Issue desk place plus minus) list named none = none (is_class_there listed place list named)

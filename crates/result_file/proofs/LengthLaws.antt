@@ -54,7 +54,7 @@ listed_most spell most (x ∷ xs) h =
     let others : length (flat_map (λ y. 0x2C ∷ spell y) xs) ≤ length xs * (most + 1) = others_most spell most xs (λ k d lt. h (suc k) d (omega arith)) in
     omega (arith, length-append (spell x) (flat_map (λ y. 0x2C ∷ spell y) xs))
 
--- at most so many items
+-- at most this many items
 listed_within : {X : Type 0} (spell : X → List ℕ) (most count : ℕ) (xs : List X) → length xs ≤ count → All (λ x. length (spell x) ≤ most) xs
     → length (listed spell xs) ≤ count * (most + 1)
 listed_within spell most count xs few h =
@@ -62,7 +62,7 @@ listed_within spell most count xs few h =
     let there : length xs * (most + 1) ≤ count * (most + 1) = mul-le-mul_right (most + 1) few in
     omega (arith, here, there)
 
--- texts behind one another
+-- texts one after another
 length2 : (a b : List ℕ) → length (a ++ b) ≡ length a + length b
 length2 a b = length-append a b
 

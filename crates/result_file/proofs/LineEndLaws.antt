@@ -66,7 +66,7 @@ listed_unbroken spell (x ∷ xs) h =
     let others = others_unbroken spell xs (λ k d lt. h (suc k) d (omega arith)) in
     rw (list_all-append is_inner (spell x) (flat_map (λ y. 0x2C ∷ spell y) xs), first, others) refl
 
--- ---- texts behind one another
+-- ---- texts one after another
 
 two_unbroken : (a b : List ℕ) → is_unbroken a ≡ true → is_unbroken b ≡ true → is_unbroken (a ++ b) ≡ true
 two_unbroken a b p q = simp (list_all-append, p, q) refl

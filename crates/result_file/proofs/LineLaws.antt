@@ -71,7 +71,7 @@ at_end_some x y (b ∷ text) e = absurd cc
 
 -- ---- lists of a given length
 
--- a list of so many items, each such as P says
+-- a list of this many items, each such as P says
 pub record IsExactly {X : Type 0} (P : X → Type 0) (count : ℕ) (xs : List X) : Type 0 where
   pub len : length xs ≡ count
   pub each : All P xs

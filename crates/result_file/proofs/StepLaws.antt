@@ -1,4 +1,4 @@
--- How far a file has come, line by line: each stage is one line behind another.
+-- How far a file has come, line by line: each stage is one line more than another.
 use Rattle.std.proofs.Common.{◌≡◌, ◌≢◌, ◌⊎◌, ℕ, zero, suc, ◌<◌, List, [], ◌∷◌, ◌++◌, length, map, refl, sym, ap, ap₂, subst, ◌∙◌, inl, inr, arith, append_assoc, append-nil, length-append}
 use Rattle.std.specs.List.{All}
 use Rattle.std.proofs.Math.Seq.{take-append_seam}
@@ -335,7 +335,7 @@ front_says (suc n) lines more next count h =
           front_says n lines some.0 from.stage shorter from.says)
     ]
 
--- where more lines stand behind those of a stage, the next takes it on
+-- where more lines stand after those of a stage, the next takes it on
 pub next_steps : (lines : List (List ℕ)) (line : List ℕ) (more : List (List ℕ)) (stage last : Stage) → Says lines stage → Says (lines ++ line ∷ more) last
     → (next : Stage) × Steps stage line next
 next_steps lines line more stage last h k =

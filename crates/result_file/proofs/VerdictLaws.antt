@@ -32,7 +32,7 @@ for_told : (text : Option (List ℕ)) (P : List ℕ → Type 0) → ((bytes : Li
 for_told None P f = tt
 for_told (Some bytes) P f = f bytes refl
 
--- what is told now, where it is told what was before
+-- what is shown now, where it is shown what was before
 told_now : (text now : Option (List ℕ)) (front bytes : List ℕ) → text ≡ prepend_known front now → text ≡ Some bytes
     → (rest : List ℕ) × (now ≡ Some rest) × (bytes ≡ front ++ rest)
 told_now text None front bytes e is = absurd cc

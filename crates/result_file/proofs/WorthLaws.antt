@@ -22,7 +22,7 @@ use Rattle.result_file.specs.RightEvents.{AreEvents}
 use Rattle.result_file.proofs.OneVerdict.{one_content_lem}
 use Rattle.result_file.specs.Worth.{RanksReplicas, ClaimsAreRanked, EventsAreRanked, EliminationsAreSound, SettlesAll, IsWorth}
 
--- answers that rank a pair rank its replicas: a pair is the class at the only place of the list of it alone
+-- answers that rank a pair rank its replicas: a pair is the class at the only place of a list that has only it
 ranks_replicas : (criteria : Criteria) (answers : List Answer) (pair : Pair) (side : Side) → IsRanked criteria.levels answers pair side
     → RanksReplicas criteria.levels answers pair side
 ranks_replicas criteria answers pair side ranked =

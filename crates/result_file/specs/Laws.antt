@@ -10,7 +10,7 @@ use Rattle.result_file.specs.Worth.{IsWorth}
 abbrev pub OneContent : Type 0
 OneContent = (text : List ℕ) (one other : Content) → IsFileOf one text → IsFileOf other text → one ≡ other
 
--- a verdict on the text itself: neither a read fault nor want of memory
+-- a verdict on the text itself: neither a read fault nor lack of memory
 abbrev pub IsOnText : Checked → Type 0
 IsOnText ReadFault = ⊥
 IsOnText NoMemory = ⊥

@@ -8,7 +8,7 @@ use Rattle.text_fields.specs.Reading.{◌>>=◌, read_more, read_list}
 use Rattle.text_fields.specs.Laws.{IsField}
 use Rattle.text_fields.proofs.NumberLaws.{bind_some, some_is}
 
--- the items behind the first, each behind a comma
+-- the items after the first, each after a comma
 abbrev others_text : {X : Type 0} → (X → List ℕ) → List X → List ℕ
 others_text spell xs = flat_map (λ y. 0x2C ∷ spell y) xs
 
@@ -39,7 +39,7 @@ more_takes {X} item spell P Ends field (suc room) text found e =
           subst (AreOthers spell P (suc room) text) (some_is _ _ e') (record { spelled = refl; each = All-nil P; most = omega arith })
     ] refl e
 
--- the text behind an item ends it
+-- the text after an item ends it
 others_end : {X : Type 0} (spell : X → List ℕ) (Ends : List ℕ → Type 0) (comma : (t : List ℕ) → Ends (0x2C ∷ t)) (xs : List X) (rest : List ℕ) → Ends rest → Ends (others_text spell xs ++ rest)
 others_end spell Ends comma [] rest ends = ends
 others_end spell Ends comma (x ∷ xs) rest ends = comma _

@@ -30,7 +30,7 @@ unfolding read_list
 no_first_item item zero text e = refl
 no_first_item item (suc n) text e = rw e refl
 
--- one item more, behind a comma
+-- one item more, after a comma
 pub next_item : {X : Type 0} (item : List ℕ → Option (X × List ℕ)) (n : ℕ) (text : List ℕ) (front : List X) (whole : Option (List X × List ℕ)) (x : X) (rest : List ℕ) → 0 < n → is_next 0x2C text ≡ true → item (drop 1 text) ≡ Some (x, rest) → with_front front (read_more item n text) ≡ whole → with_front (front ++ x ∷ []) (read_more item (n - 1) rest) ≡ whole
 unfolding read_more
 next_item item zero text front whole x rest lt comma e same = absurd (omega arith)
@@ -38,7 +38,7 @@ next_item item (suc n) text front whole x rest lt comma e same =
     let p : suc n - 1 ≡ n = omega arith in
     rw p (with_front_push front x (read_more item n rest) ∙ rw (comma, e) at same)
 
--- a comma with no item behind it
+-- a comma with no item after it
 pub no_next_item : {X : Type 0} (item : List ℕ → Option (X × List ℕ)) (n : ℕ) (text : List ℕ) (front : List X) (whole : Option (List X × List ℕ)) → 0 < n → is_next 0x2C text ≡ true → item (drop 1 text) ≡ None → with_front front (read_more item n text) ≡ whole → whole ≡ None
 unfolding read_more
 no_next_item item zero text front whole lt comma e same = absurd (omega arith)
@@ -79,12 +79,12 @@ next_cell item total start cells count text x rest h lt comma e =
       same = rw (front, fewer) (next_item item (total - count) text (take count cells) (read_list item total start) x rest (omega (arith, h.room)) comma e h.same);
     }
 
--- a comma with no item behind it
+-- a comma with no item after it
 pub no_next_cell : {X : Type 0} (item : List ℕ → Option (X × List ℕ)) (total : ℕ) (start : List ℕ) (cells : List X) (count : ℕ) (text : List ℕ) → IsFront item total start cells count text → count < length cells → is_next 0x2C text ≡ true → item (drop 1 text) ≡ None → read_list item total start ≡ None
 no_next_cell item total start cells count text h lt comma none =
     no_next_item item (total - count) text (take count cells) (read_list item total start) (omega (arith, h.room)) comma none h.same
 
--- no comma, or no cell for an item behind it
+-- no comma, or no cell for an item after it
 pub last_cell : {X : Type 0} (item : List ℕ → Option (X × List ℕ)) (total : ℕ) (start : List ℕ) (cells : List X) (count : ℕ) (text : List ℕ) → IsFront item total start cells count text → (count < length cells → is_next 0x2C text ≡ false) → read_list item total start ≡ Some (take count cells, text)
 last_cell item total start cells count text h none =
     last_item item (total - count) text (take count cells) (read_list item total start) (λ lt. none (omega (arith, h.room))) h.same

@@ -22,7 +22,7 @@ digit_range b h = grind (arith, nat_tests)
 digit_from_range : (b : ℕ) → 48 ≤ b → b ≤ 57 → is_ascii_digit b ≡ true
 digit_from_range b low high = grind (arith, nat_tests)
 
--- a digit behind a number
+-- a digit after a number
 decimal_more : (n b : ℕ) → 0 < n → is_ascii_digit b ≡ true → n * 10 + (b - 48) < 10 ^ 64 → decimal (n * 10 + (b - 48)) ≡ decimal n ++ b ∷ []
 decimal_more n b some digit lt =
     let r = digit_range b digit in
@@ -31,7 +31,7 @@ decimal_more n b some digit lt =
     let last : 48 + (n * 10 + (b - 48)) % 10 ≡ b = omega arith in
     e ∙ rw (front, last) refl
 
--- digits behind a number
+-- digits after a number
 digits_spell : (n : ℕ) (text : List ℕ) → 0 < n → (digits_after n text).0 < 10 ^ 64 → decimal n ++ text ≡ decimal (digits_after n text).0 ++ (digits_after n text).1
 digits_spell n [] some lt = refl
 digits_spell n (b ∷ text) some lt =

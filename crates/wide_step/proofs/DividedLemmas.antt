@@ -46,7 +46,7 @@ difference_exact p q k x y e r s e_pos r_below s_below h i j =
 difference_kept : (p q k l : ℤ) (m n : ℕ) → m < 2 ^ 128 → n < 2 ^ 128 → pos m ≡ p +ℤ k *ℤ pos (2 ^ 128) → pos n ≡ q +ℤ l *ℤ pos (2 ^ 128) → pos ((m + (2 ^ 128 - n)) % 2 ^ 128) ≡ (p -ℤ q) +ℤ (k -ℤ l +ℤ pos 1 -ℤ pos ((m + (2 ^ 128 - n)) / 2 ^ 128)) *ℤ pos (2 ^ 128)
 difference_kept p q k l m n m_fits n_fits f g = omega (arith, ints)
 
--- a small number is told by its low 128 bits
+-- a small number is known from its low 128 bits
 small_by_bits : (q k : ℤ) (d : ℕ) → unsigned_abs q < 2 ^ 126 → d < 2 ^ 128 → pos d ≡ q +ℤ k *ℤ pos (2 ^ 128) → d ≡ of_z w128 q
 small_by_bits q k d q_size d_fits h = omega (arith, ints)
 
