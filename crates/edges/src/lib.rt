@@ -8,7 +8,8 @@
 //! `MemSource` and `MemSink` are over memory and fail at the calls that a test names; `QuietSource`
 //! and `QuietSink` can't fail; `StdSource` and `StdSink` are the standard ends, which show nothing
 //! and are trusted. `Lines` has one buffer, taken by `reserve`: the longest line, its line end and
-//! 64 KiB of read-ahead; a line is a slice of it. `Text` has a fixed room.
+//! 64 KiB of read-ahead; a line is a slice of it. `Text` has a fixed room. `laws` says that a text
+//! splits into lines in one way.
 #![tactic(auto)]
 
 mod ends;

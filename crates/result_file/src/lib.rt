@@ -1,8 +1,9 @@
 //! Checked files: claims about a model, or the record of a survey, tested line by line.
 //!
 //! `check_result` reads a file from a source and gives the verdict that its bytes deserve. `laws`
-//! says that a text has one verdict at most. Of claims only the answers are kept, and memory grows
-//! with them; of a survey what a `Core` keeps, taken at the model line.
+//! says that each text deserves exactly one verdict and is worth what it says. Of claims only the
+//! answers are kept, and memory grows with them; of a survey what a `Core` keeps, taken at the
+//! model line.
 //!
 //! Inside: `checking` has the loop over lines. `progress` says how far the file has come: no line,
 //! the heading, a body, or a body that has ended. `bodies` is either `claims` or `survey`.
