@@ -1,4 +1,4 @@
--- The answers of a legal history: the last point meets them, and they rank each class that an event ranks.
+-- The answers of a legal history: the last point meets them.
 use Rattle.std.proofs.Common.{◌≡◌, ◌⊎◌, ℕ, ◌+◌, ◌-◌, ◌==◌, Bool, true, false, ◌||◌, List, [], ◌∷◌, length, take, get_or, replicate, Option, Some, ℤ, pos, ◌≤ℤ◌, refl, ap, sym, subst, ◌∙◌, inl, inr, arith}
 use Rattle.std.proofs.lemmas.List.{length-replicate}
 use Rattle.std.specs.Option.{option_map_or}
@@ -17,7 +17,7 @@ use Rattle.survey_core.specs.declared.events.Event.{Event}
 use Rattle.survey_core.specs.declared.events.Event.TheVariants.{Eliminate, Issue, Commit, Close, Withdraw}
 use Rattle.survey_core.specs.Kinds.{eliminates}
 use Rattle.survey_core.specs.Histories.{standing, issued, place_of, class_at, committed, commits_class, is_eliminated, is_committed}
-use Rattle.survey_core.specs.Laws.{point_of, LastPointMeets, RankedByAnswers}
+use Rattle.survey_core.specs.Laws.{point_of, LastPointMeets}
 use Rattle.survey_core.specs.Marked.{greatest_cited, numbered}
 use Rattle.survey_core.proofs.ListSteps.{Each, take_whole}
 use Rattle.survey_core.proofs.StandingLemmas.{commit_count}
@@ -31,13 +31,6 @@ ones_meet levels = record {
   };
   each = λ k d within. absurd (omega arith);
 }
-
-false_true : false ≡ true → ⊥
-false_true h = cc
-
-or_cases : (a b : Bool) → (a || b) ≡ true → (a ≡ true) ⊎ (b ≡ true)
-or_cases true b h = inl refl
-or_cases false b h = inr h
 
 module _ (listed : Listed) (asked : List ℕ) (answers : List Answer) where
   abbrev levels : List ℕ
@@ -61,55 +54,6 @@ module _ (listed : Listed) (asked : List ℕ) (answers : List Answer) where
   last_meets before (Withdraw desk answer ∷ later) earlier each count start =
       last_meets (before + 0) later earlier each.1 (omega arith) (λ none. start (omega arith))
 
-  ranked_longer : (n : ℕ) (pair : Pair) (side : Side) → IsRanked levels (take n answers) pair side → IsRanked levels answers pair side
-  ranked_longer n pair side ranked = λ values meets. ranked values (record { vector = meets.vector; each = All-take (Meets levels values) n answers meets.each })
-
-  abbrev Ranked : Pair → Type 0
-  Ranked pair = (side : Side) × IsRanked levels answers pair side
-
-  eliminated_ranked : (place : ℕ) (pair : Pair) → class_at listed.classes place ≡ Some pair → (before : ℕ) (events : List Event) → AreSound before events
-      → list_any (eliminates place) events ≡ true → Ranked pair
-  eliminated_ranked place pair class before [] each some = absurd (false_true some)
-  eliminated_ranked place pair class before (Eliminate worker other verdict combination ∷ later) each some =
-      elim (or_cases (other == place) (list_any (eliminates place) later) some) [
-        | inl here ↦
-            (let same : each.0.pair ≡ pair =
-            same_Some each.0.pair pair (sym each.0.class ∙ ap (λ k. class_at listed.classes k) (eqb-true other place here) ∙ class) in
-            (verdict, subst (λ (q : Pair). IsRanked levels answers q verdict) same (ranked_longer (greatest_cited combination.answers) each.0.pair verdict each.0.ranked)))
-        | inr there ↦ eliminated_ranked place pair class (before + 0) later each.1 there
-      ]
-  eliminated_ranked place pair class before (Issue desk other plus minus ∷ later) each some = eliminated_ranked place pair class (before + 0) later each.1 some
-  eliminated_ranked place pair class before (Commit desk question side plus minus point ∷ later) each some =
-      eliminated_ranked place pair class (before + 1) later each.1 some
-  eliminated_ranked place pair class before (Close desk question ∷ later) each some = eliminated_ranked place pair class (before + 0) later each.1 some
-  eliminated_ranked place pair class before (Withdraw desk answer ∷ later) each some = eliminated_ranked place pair class (before + 0) later each.1 some
-
-  committed_ranked : (place : ℕ) (pair : Pair) → class_at listed.classes place ≡ Some pair → (before : ℕ) (events : List Event) → AreSound before events
-      → list_any (commits_class asked place) events ≡ true → Ranked pair
-  committed_ranked place pair class before [] each some = absurd (false_true some)
-  committed_ranked place pair class before (Eliminate worker other verdict combination ∷ later) each some =
-      committed_ranked place pair class (before + 0) later each.1 some
-  committed_ranked place pair class before (Issue desk other plus minus ∷ later) each some = committed_ranked place pair class (before + 0) later each.1 some
-  committed_ranked place pair class before (Commit desk question side plus minus point ∷ later) each some =
-      elim (or_cases (option_map_or (λ other. other == place) (place_of asked question) false) (list_any (commits_class asked place) later) some) [
-        | inl here ↦
-            (let test : (each.0.place == place) ≡ true =
-            subst (λ (o : Option ℕ). option_map_or (λ other. other == place) o false ≡ true) each.0.asks here in
-            let same : each.0.pair ≡ pair =
-            same_Some each.0.pair pair (sym each.0.class ∙ ap (λ k. class_at listed.classes k) (eqb-true each.0.place place test) ∙ class) in
-            let given : Answer = record { pair = each.0.pair; side = side } in
-            let at : get_or answers (before + 1 - 1) given ≡ given = get_or_from_slice_get answers (before + 1 - 1) given given each.0.answer in (
-              side,
-              λ values meets.
-                  subst (λ (q : Pair). Ranks levels values q side) same
-                  (subst (λ (a : Answer). Meets levels values a) at
-                  (meets.each (before + 1 - 1) given (slice_get_within answers (before + 1 - 1) given each.0.answer))),
-            ))
-        | inr there ↦ committed_ranked place pair class (before + 1) later each.1 there
-      ]
-  committed_ranked place pair class before (Close desk question ∷ later) each some = committed_ranked place pair class (before + 0) later each.1 some
-  committed_ranked place pair class before (Withdraw desk answer ∷ later) each some = committed_ranked place pair class (before + 0) later each.1 some
-
 pub last_point_meets_lem : LastPointMeets
 last_point_meets_lem listed history model legal =
     let sound : IsSound listed history = sound_history listed history legal in
@@ -119,12 +63,3 @@ last_point_meets_lem listed history model legal =
     (λ none.
     let empty : [] ≡ answers = take_whole 0 answers (omega arith) in
     subst (λ (l : List Answer). MeetsAll listed.criteria.levels l (replicate (increments listed.criteria.levels) (pos 1))) empty (ones_meet listed.criteria.levels))
-
-pub ranked_by_answers_lem : RankedByAnswers
-ranked_by_answers_lem listed history place pair model legal ranked class =
-    let sound : IsSound listed history = sound_history listed history legal in
-    let answers : List Answer = committed listed.classes history in
-    elim (or_cases (is_eliminated history place) (is_committed history place) ranked) [
-      | inl eliminated ↦ eliminated_ranked listed (issued history) answers place pair class 0 (standing history) sound.each eliminated
-      | inr given ↦ committed_ranked listed (issued history) answers place pair class 0 (standing history) sound.each given
-    ]

@@ -11,7 +11,7 @@ use Rattle.criteria_model.specs.declared.pairs.Pair.{Pair}
 use Rattle.criteria_model.specs.declared.pairs.Answer.{Answer}
 use Rattle.criteria_model.specs.declared.pairs.Side.{Side}
 use Rattle.criteria_model.specs.declared.pairs.Side.TheVariants.{Left, Right, Equal}
-use Rattle.criteria_model.specs.Answers.{Ranks, Meets, IsSatisfiable, IsRanked, turned_side}
+use Rattle.criteria_model.specs.Answers.{Ranks, Meets, IsSatisfiable, IsRanked, IsOpen, Opens, turned_side}
 use Rattle.criteria_model.proofs.GainLemmas.{replicas_rank_same_lem}
 use Rattle.farkas_check.specs.Proof.{Proves}
 use Rattle.farkas_check.proofs.Ranking.{proved_is_ranked_lem}
@@ -23,12 +23,12 @@ use Rattle.pair_enumeration.proofs.PlaceLaws.{each_pair_has_place_lem}
 use Rattle.survey_core.specs.declared.events.Event.{Event}
 use Rattle.survey_core.specs.declared.events.Event.TheVariants.{Eliminate, Issue, Commit, Close, Withdraw}
 use Rattle.survey_core.specs.Kinds.{eliminates}
-use Rattle.survey_core.specs.Histories.{standing, issued, place_of, class_at, committed, commits_class, is_eliminated, is_committed}
+use Rattle.survey_core.specs.Histories.{standing, issued, place_of, class_at, class_of, committed, commits_class, is_eliminated, is_committed}
 use Rattle.survey_core.specs.Legal.{IsLegal}
-use Rattle.survey_core.proofs.NamedParts.{MayEliminate, named}
-use Rattle.survey_core.specs.Laws.{last_point, GivesSide, HasRanking, flipped_side, AnswersAreSatisfiable, EliminatedAreRanked, RankedHasRanking, EachHasOneRanking, RankingsAreByAnswers, ClassRanksPairs, CompleteRanksEveryPair}
+use Rattle.survey_core.proofs.NamedParts.{MayEliminate, MayIssue, MayCommit, HasParts, named}
+use Rattle.survey_core.specs.Laws.{last_point, GivesSide, HasRanking, flipped_side, AnswersAreSatisfiable, EliminatedAreRanked, EliminatedPairsAreRanked, IssuedAreOpen, AnsweredAreOpen, RankedHasRanking, EachHasOneRanking, RankingsAreByAnswers, ClassRanksPairs, CompleteRanksEveryPair}
 use Rattle.survey_core.specs.Marked.{rests_on, Resting, numbered}
-use Rattle.survey_core.proofs.ListSteps.{Each, some_and}
+use Rattle.survey_core.proofs.ListSteps.{Each, at_some}
 use Rattle.row_laws.proofs.ItemLemmas.{item_positive, item_within}
 use Rattle.survey_core.proofs.StandingLemmas.{step}
 use Rattle.survey_core.proofs.SoundLemmas.{IsSoundAt, IsSound, sound_history}
@@ -42,23 +42,51 @@ event_at : (before after : List Event) (event : Event) → slice_get (before ++ 
 event_at [] after event = refl
 event_at (first ∷ before) after event = event_at before after event
 
+-- an event of a legal history may follow what stands before it
+may_follow : (listed : Listed) (history before after : List Event) (event : Event) → IsLegal listed history → history ≡ before ++ event ∷ after
+    → HasParts listed before event
+may_follow listed history before after event legal whole =
+    let at : slice_get history (length before) ≡ Some event =
+    ap (λ (events : List Event). slice_get events (length before)) whole ∙ event_at before after event in
+    let front : take (length before) history ≡ before =
+    ap (λ (events : List Event). take (length before) events) whole ∙ take-append_seam before (event ∷ after) in
+    subst (λ (events : List Event). HasParts listed events event) front
+    (named listed (take (length before) history) event (legal (length before) event at).1)
+
 pub eliminated_are_ranked_lem : EliminatedAreRanked
 eliminated_are_ranked_lem listed history before after worker place verdict combination pair legal whole class =
     let levels : List ℕ = listed.criteria.levels in
     let answers : List Answer = committed listed.classes before in
-    let event : Event = Eliminate worker place verdict combination in
-    let at : slice_get history (length before) ≡ Some event = ap (λ (events : List Event). slice_get events (length before)) whole ∙ event_at before after event in
-    let front : take (length before) history ≡ before =
-    ap (λ (events : List Event). take (length before) events) whole ∙ take-append_seam before (event ∷ after) in
     let may : MayEliminate listed before place verdict combination =
-    subst (λ (events : List Event). MayEliminate listed events place verdict combination) front
-    (named listed (take (length before) history) event (legal (length before) event at).1) in
-    let proved : (other : Pair) × (class_at listed.classes place ≡ Some other) × Proves levels answers combination other verdict =
-    some_and (class_at listed.classes place) (λ other. Proves levels answers combination other verdict) may.proved in
-    let same : proved.0 ≡ pair = same_Some proved.0 pair (sym proved.1 ∙ class) in
-    subst (λ (p : Pair). IsRanked levels answers p verdict) same
-    (subst (λ (l : List Answer). IsRanked levels l proved.0 verdict) (append-nil answers)
-    (proved_is_ranked_lem levels answers [] combination proved.0 verdict proved.2))
+    may_follow listed history before after (Eliminate worker place verdict combination) legal whole in
+    let proves : Proves levels answers combination pair verdict =
+    at_some (class_at listed.classes place) (λ other. Proves levels answers combination other verdict) pair class may.proved in
+    subst (λ (l : List Answer). IsRanked levels l pair verdict) (append-nil answers)
+    (proved_is_ranked_lem levels answers [] combination pair verdict proves)
+
+opened_open : (levels : List ℕ) (answers : List Answer) (pair : Pair) (plus minus : List ℤ) → Opens levels answers pair plus minus → IsOpen levels answers pair
+opened_open levels answers pair plus minus opens Left ranked = omega (arith, ints, ranked minus opens.minus_meets, opens.less)
+opened_open levels answers pair plus minus opens Right ranked = omega (arith, ints, ranked plus opens.plus_meets, opens.more)
+opened_open levels answers pair plus minus opens Equal ranked = omega (arith, ints, ranked plus opens.plus_meets, opens.more)
+
+pub issued_are_open_lem : IssuedAreOpen
+issued_are_open_lem listed history before after desk place plus minus pair legal whole class =
+    let levels : List ℕ = listed.criteria.levels in
+    let answers : List Answer = committed listed.classes before in
+    let may : MayIssue listed before place plus minus = may_follow listed history before after (Issue desk place plus minus) legal whole in
+    let opens : Opens levels answers pair plus minus =
+    at_some (class_at listed.classes place) (λ pair. Opens levels answers pair plus minus) pair class may.opened in
+    (opens, opened_open levels answers pair plus minus opens)
+
+pub answered_are_open_lem : AnsweredAreOpen
+answered_are_open_lem listed history before after desk question side plus minus point pair legal whole class =
+    let levels : List ℕ = listed.criteria.levels in
+    let answers : List Answer = committed listed.classes before in
+    let may : MayCommit listed before question side plus minus point =
+    may_follow listed history before after (Commit desk question side plus minus point) legal whole in
+    let opens : Opens levels answers pair plus minus =
+    at_some (class_of listed.classes (issued before) question) (λ pair. Opens levels answers pair plus minus) pair class may.opened in
+    (opens, opened_open levels answers pair plus minus opens)
 
 -- ---- a class is ranked by an event exactly where it has a ranking
 eliminates_gives : (asked : List ℕ) (place : ℕ) (event : Event) → eliminates place event ≡ true → (side : Side) × GivesSide asked place event side
@@ -207,6 +235,11 @@ class_ranks_pairs_lem listed answers place side pair a b flip class ranked stand
     flipped_ranks listed.criteria.levels values a b flip side
     (replicas_rank_same_lem listed.criteria.levels values stands.pair (flipped flip a b) side stands.replica
     (subst (λ (p : Pair). Ranks listed.criteria.levels values p side) same (ranked values meets)))
+
+pub eliminated_pairs_are_ranked_lem : EliminatedPairsAreRanked
+eliminated_pairs_are_ranked_lem listed history before after worker place verdict combination a b flip legal whole class =
+    class_ranks_pairs_lem listed (committed listed.classes before) place verdict class.pair a b flip class.stands
+    (eliminated_are_ranked_lem listed history before after worker place verdict combination class.pair legal whole class.stands) class
 
 pub complete_ranks_every_pair_lem : CompleteRanksEveryPair
 complete_ranks_every_pair_lem listed history model legal each a b first second needs =

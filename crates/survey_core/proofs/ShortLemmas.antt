@@ -11,9 +11,9 @@ use Rattle.survey_core.specs.declared.events.Event.{Event}
 use Rattle.survey_core.specs.declared.events.Event.TheVariants.{Eliminate, Issue, Commit, Close, Withdraw}
 use Rattle.survey_core.specs.declared.marks.Question.{Question}
 use Rattle.survey_core.specs.declared.limits.TheConstants.{MAX_EVENTS}
-use Rattle.survey_core.specs.Legal.{IsEvent, MayFollow, IsLegal}
+use Rattle.survey_core.specs.Legal.{IsEvent, most_events, IsLegal}
 use Rattle.survey_core.proofs.NamedParts.{MayCommit, MayWithdraw, HasParts, named}
-use Rattle.survey_core.specs.Laws.{IsShort}
+use Rattle.survey_core.specs.Laws.{IsWithinMost, IsShort}
 use Rattle.survey_core.specs.Marked.{Table, is_ranked_mark, KeepsHistory}
 use Rattle.row_laws.proofs.ItemLemmas.{item_of}
 use Rattle.survey_core.proofs.ListSteps.{slice_get_inside, take_next, take_whole}
@@ -86,13 +86,12 @@ module _ (listed : Listed) (history : List Event) (now : Keeps listed history) w
   }
   keeps_next (Withdraw desk answer) is may = keeps_withdraw desk answer is may
 
-  short_now : length history ≤ MAX_EVENTS
-  short_now =
+  within_now : length history ≤ most_events (length listed.classes) now.withdrawn
+  within_now =
       let c : ℕ = length listed.classes in
       omega (
         arith,
         now.kept.short,
-        now.kept.unspent,
         now.kept.table_of.len,
         now.kept.table_of.asked_count,
         count_by-le-length (λ m. m.issued) now.table.classes,
@@ -116,8 +115,17 @@ keeps_first listed history model legal (suc k) within =
     subst (λ (events : List Event). Keeps listed events) (sym (take_next history k found.0 found.1))
     (keeps_next listed (take k history) before found.0 (legal k found.0 found.1).0 (named listed (take k history) found.0 (legal k found.0 found.1).1))
 
+keeps_whole : (listed : Listed) (history : List Event) → IsListed listed → IsLegal listed history → Keeps listed history
+keeps_whole listed history model legal =
+    subst (λ (events : List Event). Keeps listed events) (take_whole (length history) history (omega arith))
+    (keeps_first listed history model legal (length history) (omega arith))
+
+pub legal_is_within_most_lem : IsWithinMost
+legal_is_within_most_lem listed history model legal =
+    let now : Keeps listed history = keeps_whole listed history model legal in
+    subst (λ (n : ℕ). length history ≤ most_events (length listed.classes) n) now.kept.withdrawals_made (within_now listed history now)
+
 pub legal_is_short_lem : IsShort
 legal_is_short_lem listed history model legal =
-    let whole : take (length history) history ≡ history = take_whole (length history) history (omega arith) in
-    subst (λ (events : List Event). length events ≤ MAX_EVENTS) whole
-    (short_now listed (take (length history) history) (keeps_first listed history model legal (length history) (omega arith)))
+    let now : Keeps listed history = keeps_whole listed history model legal in
+    omega (arith, within_now listed history now, now.kept.unspent)

@@ -6,7 +6,7 @@ use Rattle.criteria_model.specs.declared.pairs.Answer.{Answer}
 use Rattle.criteria_model.specs.declared.pairs.Side.{Side}
 use Rattle.criteria_model.specs.Worth.{increments}
 use Rattle.criteria_model.specs.Alternatives.{IsAlternative}
-use Rattle.criteria_model.specs.Answers.{MeetsAll, IsSatisfiable, IsRanked, turned_side}
+use Rattle.criteria_model.specs.Answers.{MeetsAll, IsSatisfiable, IsRanked, IsOpen, Opens, turned_side}
 use Rattle.farkas_check.specs.declared.combination.Combination.{Combination}
 use Rattle.pair_enumeration.specs.declared.flips.Flip.{Flip}
 use Rattle.pair_enumeration.specs.declared.flips.Flip.TheVariants.{Kept, Turned}
@@ -14,10 +14,10 @@ use Rattle.pair_enumeration.specs.Listed.{Listed, IsListed}
 use Rattle.pair_enumeration.specs.Places.{NeedsQuestion, IsPlaceOf}
 use Rattle.survey_core.specs.declared.broken.Broken.{Broken}
 use Rattle.survey_core.specs.declared.events.Event.{Event}
-use Rattle.survey_core.specs.declared.events.Event.TheVariants.{Eliminate, Commit}
+use Rattle.survey_core.specs.declared.events.Event.TheVariants.{Eliminate, Issue, Commit}
 use Rattle.survey_core.specs.declared.limits.TheConstants.{MAX_EVENTS}
-use Rattle.survey_core.specs.Histories.{standing, issued, place_of, committed, class_at, is_ranked}
-use Rattle.survey_core.specs.Legal.{IsPlace, MayFollow, FailsFirst, IsLegal}
+use Rattle.survey_core.specs.Histories.{standing, issued, place_of, committed, class_at, class_of, is_ranked, withdrawals}
+use Rattle.survey_core.specs.Legal.{IsPlace, most_events, MayFollow, FailsFirst, IsLegal}
 
 -- the point of a Commit
 abbrev pub point_of : Event → Option (List ℤ)
@@ -34,12 +34,11 @@ LastPointMeets =
     (listed : Listed) (history : List Event) → IsListed listed → IsLegal listed history
     → MeetsAll listed.criteria.levels (committed listed.classes history) (last_point listed.criteria.levels history)
 
--- a class that an event of a legal history ranks is ranked by its answers
-abbrev pub RankedByAnswers : Type 0
-RankedByAnswers =
-    (listed : Listed) (history : List Event) (place : ℕ) (pair : Pair) → IsListed listed → IsLegal listed history
-    → IsTrue (is_ranked history place) → class_at listed.classes place ≡ Some pair
-    → (side : Side) × IsRanked listed.criteria.levels (committed listed.classes history) pair side
+-- a legal history has at most this number of events, by its classes and its withdrawals
+abbrev pub IsWithinMost : Type 0
+IsWithinMost =
+    (listed : Listed) (history : List Event) → IsListed listed → IsLegal listed history
+    → length history ≤ most_events (length listed.classes) (withdrawals history)
 
 -- a legal history is at most MAX_EVENTS events long
 abbrev pub IsShort : Type 0
@@ -57,6 +56,35 @@ EliminatedAreRanked =
     (listed : Listed) (history before after : List Event) (worker place : ℕ) (verdict : Side) (combination : Combination) (pair : Pair)
     → IsLegal listed history → history ≡ before ++ Eliminate worker place verdict combination ∷ after → class_at listed.classes place ≡ Some pair
     → IsRanked listed.criteria.levels (committed listed.classes before) pair verdict
+
+-- a side of a class, seen from two alternatives that stand as the class does or the other way round
+abbrev pub flipped_side : Flip → Side → Side
+flipped_side Kept side = side
+flipped_side Turned side = turned_side side
+
+-- and so are any two alternatives that the class stands for, its replicas too, either way round
+abbrev pub EliminatedPairsAreRanked : Type 0
+EliminatedPairsAreRanked =
+    (listed : Listed) (history before after : List Event) (worker place : ℕ) (verdict : Side) (combination : Combination) (a b : List ℕ) (flip : Flip)
+    → IsLegal listed history → history ≡ before ++ Eliminate worker place verdict combination ∷ after → IsPlaceOf listed a b place flip
+    → IsRanked listed.criteria.levels (committed listed.classes before) (record { left = a; right = b }) (flipped_side flip verdict)
+
+-- a class that an event of a legal history issues is opened by the event's vectors, so left open by the answers that stood before it
+abbrev pub IssuedAreOpen : Type 0
+IssuedAreOpen =
+    (listed : Listed) (history before after : List Event) (desk place : ℕ) (plus minus : List ℤ) (pair : Pair)
+    → IsLegal listed history → history ≡ before ++ Issue desk place plus minus ∷ after → class_at listed.classes place ≡ Some pair
+    → Opens listed.criteria.levels (committed listed.classes before) pair plus minus
+    × IsOpen listed.criteria.levels (committed listed.classes before) pair
+
+-- so is the class of a question that an event answers
+abbrev pub AnsweredAreOpen : Type 0
+AnsweredAreOpen =
+    (listed : Listed) (history before after : List Event) (desk question : ℕ) (side : Side) (plus minus point : List ℤ) (pair : Pair)
+    → IsLegal listed history → history ≡ before ++ Commit desk question side plus minus point ∷ after
+    → class_of listed.classes (issued before) question ≡ Some pair
+    → Opens listed.criteria.levels (committed listed.classes before) pair plus minus
+    × IsOpen listed.criteria.levels (committed listed.classes before) pair
 
 -- the side that an event gives the class at a place: the verdict of its Eliminate, or the side of a Commit of a question that asks it
 abbrev pub GivesSide : List ℕ → ℕ → Event → Side → Type 0
@@ -84,11 +112,6 @@ RankingsAreByAnswers =
     (listed : Listed) (history : List Event) (place : ℕ) (side : Side) (pair : Pair) → IsLegal listed history
     → HasRanking history place side → class_at listed.classes place ≡ Some pair
     → IsRanked listed.criteria.levels (committed listed.classes history) pair side
-
--- a side of a class, seen from two alternatives that stand as the class does or the other way round
-abbrev pub flipped_side : Flip → Side → Side
-flipped_side Kept side = side
-flipped_side Turned side = turned_side side
 
 -- answers that rank a class rank every two alternatives whose class it is, its replicas too, either way round
 abbrev pub ClassRanksPairs : Type 0

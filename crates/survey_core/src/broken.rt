@@ -11,7 +11,7 @@ pub enum Broken {
     Flaw(Flaw),
     /// The class was issued before.
     Asked,
-    /// Four questions are open.
+    /// Four or more questions are open.
     Full,
     /// An earlier class is neither ranked by an event nor issued.
     Earlier,

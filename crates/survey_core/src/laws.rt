@@ -1,5 +1,5 @@
 //! Laws of legal histories. Each function does nothing; its contract is the law.
-ghost use Rattle.survey_core.specs.Laws.{IsShort, LastPointMeets, AnswersAreSatisfiable, RankedByAnswers, EliminatedAreRanked, RankedHasRanking, EachHasOneRanking, RankingsAreByAnswers, ClassRanksPairs, CompleteRanksEveryPair, OneFirstPart, AllowedLacksNone};
+ghost use Rattle.survey_core.specs.Laws.{IsShort, LastPointMeets, AnswersAreSatisfiable, IsWithinMost, EliminatedAreRanked, EliminatedPairsAreRanked, IssuedAreOpen, AnsweredAreOpen, RankedHasRanking, EachHasOneRanking, RankingsAreByAnswers, ClassRanksPairs, CompleteRanksEveryPair, OneFirstPart, AllowedLacksNone};
 
 /// The point of the last standing commit, or all ones, meets the answers of a legal history.
 pub fn last_point_meets()
@@ -11,9 +11,9 @@ pub fn answers_are_satisfiable()
     ensures { AnswersAreSatisfiable }
 {}
 
-/// A class that an event of a legal history ranks is ranked by the history's answers.
-pub fn ranked_by_answers()
-    ensures { RankedByAnswers }
+/// A legal history has at most `most_events` events, by its classes and its withdrawals.
+pub fn legal_is_within_most()
+    ensures { IsWithinMost }
 {}
 
 /// A legal history is at most 131,072 events long.
@@ -24,6 +24,21 @@ pub fn legal_is_short()
 /// Each class that an event of a legal history eliminates is ranked so by the answers before that event.
 pub fn eliminated_are_ranked()
     ensures { EliminatedAreRanked }
+{}
+
+/// So is every pair that the class stands for, replicas included, either way round.
+pub fn eliminated_pairs_are_ranked()
+    ensures { EliminatedPairsAreRanked }
+{}
+
+/// The vectors of each issue open its class by the answers before it, which leave the class open.
+pub fn issued_are_open()
+    ensures { IssuedAreOpen }
+{}
+
+/// The vectors of each commit open its question's class by the answers before it, which leave the class open.
+pub fn answered_are_open()
+    ensures { AnsweredAreOpen }
 {}
 
 /// A class has a ranking, by an event that stands, exactly where an event ranks it.

@@ -10,7 +10,7 @@ pub const MAX_DESKS: u8 = 4;
 /// Eliminators; they are numbered from 1.
 pub const MAX_WORKERS: u8 = 16;
 
-/// Questions that may be open at once.
+/// Open questions at which none more is issued. A withdrawal may open more.
 pub const MAX_OPEN_QUESTIONS: u32 = 4;
 
 /// Whether no further withdrawal is allowed in a survey with this number of classes, after this number of withdrawals.

@@ -8,7 +8,7 @@ ghost use Rattle.criteria_model.specs.Classes.{IsClass};
 ghost use Rattle.pair_enumeration.specs.Listed.{IsListed};
 ghost use Rattle.survey_core.specs.Histories.{issued, is_issued, place_of, class_at, committed, is_ranked, is_eliminated, open_questions, IsOpenQuestion, withdrawals as withdrawals_of};
 ghost use Rattle.survey_core.specs.Legal.{IsEvent, IsPlace, AreEarlierAsked, OpensClass, eliminate_parts, issue_parts, commit_parts, close_parts, withdraw_parts, parts, IsSpent, MayFollow, IsLegal};
-ghost use Rattle.survey_core.specs.Laws.{last_point};
+ghost use Rattle.survey_core.specs.Laws.{last_point, RanksEachClass};
 ghost use Rattle.survey_core.specs.Marked.{greatest_cited};
 ghost use Rattle.survey_core.specs.Parts.{IsVerdictOn};
 ghost use Rattle.survey_core.specs.States.{HasState};
@@ -373,7 +373,7 @@ impl Core {
 
     /// Whether each class has one.
     pub fn all_ranked(&self) -> bool
-        ensures { IsTrue result ↔ ((place : ℕ) → IsPlace self.now.listed place → IsTrue (is_ranked self.now.history place)) }
+        ensures { IsTrue result ↔ RanksEachClass self.now.listed self.now.history }
     {
         self.marks.all_ranked()
     }
