@@ -18,8 +18,7 @@ use Rattle.criteria_model.proofs.LevelLemmas.{length-has_on, increments-cons}
 use Rattle.survey_core.proofs.RankingLemmas.{ranks_once}
 use Rattle.survey_core.proofs.ListSteps.{Each, Each-append, Each-All, All-Each, Each-front, Each-back}
 use Rattle.reply_laws.proofs.RowPoints.{LinearRow, IsShort, MeetsRow, rows_decided}
-use Rattle.survey_replies.specs.Laws.{IsDecided}
-use Rattle.reply_laws.specs.Laws.{EachIsDecided}
+use Rattle.reply_laws.specs.Laws.{IsDecided, EachIsDecided}
 
 length_has : (levels alternative : List ℕ) → length (has levels alternative) ≤ increments levels
 length_has [] alternative = omega arith

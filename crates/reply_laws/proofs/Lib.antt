@@ -1,4 +1,6 @@
 pub mod DictionaryPoints
 pub mod RowPoints
 pub mod Decided
+pub mod TotalLemmas
 pub mod Replies
+pub mod CompleteLemmas

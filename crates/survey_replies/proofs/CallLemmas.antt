@@ -85,6 +85,7 @@ turns_later listed desk earlier before after request reply watches turns =
       later = omega (arith, turns.later);
       ends = turns.ends;
       eliminated = turns.eliminated;
+      once = turns.once;
       eliminations = λ k d within. (let h = turns.eliminations k d within in (omega (arith, h.0), h.1, h.2));
       own = turns.own ∙ ap (λ (l : List ℕ). l ++ turns.eliminated ++ places_of after.journal reply) watches.own;
     }
@@ -126,7 +127,7 @@ each_later listed desk before after (exchange ∷ exchanges) least low (middle, 
   each_later listed desk middle after exchanges least (omega (arith, prefix_length before.journal middle.journal turns.longer)) rest,
 )
 
-pairs_cons : {X : Type 0} (R : X → X → Type 0) (x : X) (xs : List X) → All (R x) xs → AllPairs R xs → AllPairs R (x ∷ xs)
+pub pairs_cons : {X : Type 0} (R : X → X → Type 0) (x : X) (xs : List X) → All (R x) xs → AllPairs R xs → AllPairs R (x ∷ xs)
 pairs_cons R x xs first others i zero d less within = absurd (omega arith)
 pairs_cons R x xs first others zero (suc j) d less within = first j d (omega arith)
 pairs_cons R x xs first others (suc i) (suc j) d less within = others i j d (omega arith) (omega arith)

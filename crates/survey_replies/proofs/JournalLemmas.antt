@@ -5,29 +5,28 @@ use Rattle.std.specs.List.{flat_map, range_with_len}
 use mathlib.Core.List.{IsPrefix}
 use Rattle.std.proofs.lemmas.Bool.{cases_lt, eqb-true}
 use Rattle.std.proofs.lemmas.List.Sums.{sum_by-cons}
-use Rattle.std.proofs.lemmas.Option.{none-some}
+use Rattle.std.proofs.lemmas.Option.{none-some, same_Some}
 use Rattle.criteria_model.specs.declared.pairs.Side.{Side}
 use Rattle.farkas_check.specs.declared.combination.Combination.{Combination}
 use Rattle.pair_enumeration.specs.Listed.{Listed}
 use Rattle.survey_core.specs.declared.events.Event.{Event}
 use Rattle.survey_core.specs.declared.events.Event.TheVariants.{Eliminate, Issue, Commit, Close, Withdraw}
 use Rattle.survey_core.specs.Histories.{issued, place_of, is_eliminated}
-use Rattle.survey_core.proofs.ListSteps.{Each, Each-range, Each-append, Each-map, All-Each, slice_get_inside, slice_get-take, some_and}
+use Rattle.survey_core.proofs.ListSteps.{Each, Each-range, Each-append, Each-map, Each-All, All-Each, slice_get_inside, slice_get-take, some_and}
 use Rattle.survey_replies.specs.Requests.{Request}
 use Rattle.survey_replies.specs.Requests as request
 use Rattle.survey_replies.specs.declared.replies.NextReply.TheVariants.{Question}
 use Rattle.survey_replies.specs.declared.replies.AnswerReply.TheVariants.{Accepted, Implied}
 use Rattle.survey_replies.specs.declared.replies.WithdrawReply.TheVariants.{Withdrawn}
-use Rattle.survey_replies.specs.Outcomes.{Outcome}
+use Rattle.survey_replies.specs.Outcomes.{Outcome, Exchange}
 use Rattle.survey_replies.specs.Outcomes as outcome
 use Rattle.survey_replies.specs.Records.{Records, missing_elimination, recorded}
 use Rattle.survey_replies.specs.Calls.{read_by, end_of, places_of, Seen, unseen, IsEliminateOf, HasEliminateOf, HasEliminateFor, IsCall, Conversation, reply_places, occurrences}
 use Rattle.survey_replies.specs.Outcomes.{at_of}
-use Rattle.survey_replies.specs.CallLaws.{IsNoEliminate, OwnEliminatesAreDesks}
+use Rattle.survey_replies.specs.CallLaws.{IsNoEliminate, PlacesFromStart, OwnEliminatesAreDesks}
 use Rattle.survey_replies.specs.JournalLaws.{DeskRun, WorkerRun, EachHasOneReply, EachEliminateHasItsWorker}
 use Rattle.survey_replies.proofs.InterviewLemmas.{count_by-append}
-use Rattle.survey_replies.proofs.TotalLemmas.{each_at}
-use Rattle.survey_replies.proofs.CallLemmas.{prefix_trans, prefix_get, conversation_longer, none_there, not_eliminate, has_longer, eliminate_of, own_are_of_replies_lem}
+use Rattle.survey_replies.proofs.CallLemmas.{prefix_length, prefix_trans, prefix_get, conversation_longer, each_later, none_there, not_eliminate, has_longer, eliminate_of, own_are_of_replies_lem}
 
 -- if it is an Eliminate, it names worker 0
 IsDesks : Event → Type 0
@@ -56,6 +55,11 @@ each_desks desk history request.withdraw (outcome.withdraw (Withdrawn at answer 
 each_desks desk history _ _ events same = subst (Each IsDesks) (sym same) tt
 
 -- ---- lists
+each_at : {X : Type 0} (P : X → Type 0) (xs : List X) (k : ℕ) (x : X) → Each P xs → slice_get xs k ≡ Some x → P x
+each_at P [] k x each at = absurd (none-some x at)
+each_at P (y ∷ xs) zero x each at = subst P (same_Some y x at) each.0
+each_at P (y ∷ xs) (suc k) x each at = each_at P xs k x each.1 at
+
 slice_get-drop : (n k j : ℕ) (events : List Event) → j ≡ n + k → slice_get (drop n events) k ≡ slice_get events j
 slice_get-drop zero k j events same = ap (λ i. slice_get events i) (omega arith)
 slice_get-drop (suc n) k j [] same = refl
@@ -142,6 +146,51 @@ own_eliminates_are_desks_lem listed desk before after (exchange ∷ exchanges) j
           turn_desks listed desk before middle exchange.request exchange.reply journal place worker turns
           (prefix_trans middle.journal after.journal journal (conversation_longer listed desk middle after exchanges rest) prefix) has (omega arith)
     ]
+
+-- ---- where own places lie
+call_places : (listed : Listed) (desk : ℕ) (before after : Seen) (asked : Request) (reply : Outcome) → IsCall listed desk before after asked reply
+    → (place : ℕ) → occurrences place before.own < occurrences place after.own → (length before.journal ≤ place) × (place < length after.journal)
+call_places listed desk before after asked reply call place more =
+    let last : List ℕ = places_of after.journal reply in
+    let count : ℕ = recorded (read_by after.journal reply) reply in
+    let sum : occurrences place after.own ≡ occurrences place before.own + occurrences place call.eliminated + occurrences place last =
+    ap (occurrences place) call.own ∙ times_both place (before.own ++ call.eliminated) last
+    ∙ ap (λ n. n + occurrences place last) (times_both place before.own call.eliminated) in
+    let Early : ℕ → Type 0 = λ other. (length before.journal ≤ other) × (other < at_of reply) × HasEliminateFor after.journal asked other in
+    elim (cases_lt 0 (occurrences place call.eliminated)) [
+      | inl early ↦
+          (let here : Early place = some_there Early place call.eliminated (All-Each Early call.eliminated call.eliminations) early in
+          (here.0, omega (arith, here.1, call.ends)))
+      | inr none ↦
+          (let here : (at_of reply ≤ place) × (place < at_of reply + count) =
+          some_there (λ q. (at_of reply ≤ q) × (q < at_of reply + count)) place last (Each-range (at_of reply) count) (omega arith) in
+          (omega (arith, here.0, call.later), omega (arith, here.1, call.ends)))
+    ]
+
+own_places : (listed : Listed) (desk : ℕ) (before after : Seen) (exchanges : List Exchange) → Conversation listed desk before after exchanges
+    → (place : ℕ) → occurrences place before.own < occurrences place after.own → (length before.journal ≤ place) × (place < length after.journal)
+own_places listed desk before after [] watches place more = absurd (omega (arith, ap (occurrences place) watches.own))
+own_places listed desk before after (exchange ∷ exchanges) (middle, call, rest) place more =
+    let earlier : length before.journal ≤ length middle.journal = prefix_length before.journal middle.journal call.longer in
+    let later : length middle.journal ≤ length after.journal =
+    prefix_length middle.journal after.journal (conversation_longer listed desk middle after exchanges rest) in
+    elim (cases_lt (occurrences place middle.own) (occurrences place after.own)) [
+      | inl more_later ↦
+          (let here : (length middle.journal ≤ place) × (place < length after.journal) =
+          own_places listed desk middle after exchanges rest place more_later in
+          (omega (arith, here.0), here.1))
+      | inr none_later ↦
+          (let here : (length before.journal ≤ place) × (place < length middle.journal) =
+          call_places listed desk before middle exchange.request exchange.reply call place (omega arith) in
+          (here.0, omega (arith, here.1)))
+    ]
+
+pub places_from_start_lem : PlacesFromStart
+places_from_start_lem listed desk before after exchanges conversation = (
+  Each-All (λ exchange. length before.journal ≤ at_of exchange.reply) exchanges
+      (each_later listed desk before after exchanges (length before.journal) (omega arith) conversation),
+  own_places listed desk before after exchanges conversation,
+)
 
 -- ---- all together
 desks_reply : (listed : Listed) (journal : List Event) (place : ℕ) (event : Event) (desks : List DeskRun)

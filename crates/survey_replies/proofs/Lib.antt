@@ -1,6 +1,5 @@
 pub mod InterviewLemmas
 pub mod ReplyLemmas
-pub mod TotalLemmas
 pub mod CallLemmas
 pub mod TurnLemmas
 pub mod JournalLemmas

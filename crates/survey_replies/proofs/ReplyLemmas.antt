@@ -116,7 +116,7 @@ module _ (listed : Listed) (now : Interview) where
   one_withdraw (Withdrawn at answer question) (Spent at') f g = absurd (f.1 g.1)
   one_withdraw (Withdrawn at answer question) (Withdrawn at' answer' question') f g =
       let same : answer ≡ answer' = f.2 ∙ sym g.2 in
-      let one : question ≡ question' = same_Some question question' (sym f.3 ∙ ap (λ k. item_at now.answered k) same ∙ g.3) in
+      let one : question ≡ question' = same_Some question question' (sym f.3 ∙ g.3) in
       λ i. gist.withdrawn (same i) (one i)
 
 next_only : (listed : Listed) (now : Interview) (one : NextReply) (other : Outcome) → IsNextReply listed now one → IsReplyTo listed now request.next other

@@ -1,6 +1,6 @@
 -- A call, made of its turns.
-use Rattle.std.proofs.Common.{◌≡◌, ℕ, ◌+◌, ◌-◌, ◌<◌, ◌≤◌, Bool, true, false, cond, List, [], ◌∷◌, ◌++◌, length, take, drop, Option, Some, refl, ap, sym, subst, ◌∙◌, arith, get_or, append-nil, append_assoc, length-append, IsSomeAnd, inl, inr, slice_get, ◌⊎◌}
-use Rattle.std.specs.Prelude.{slice_range}
+use Rattle.std.proofs.Common.{◌≡◌, ℕ, suc, ◌+◌, ◌-◌, ◌<◌, ◌≤◌, Bool, true, false, cond, List, [], ◌∷◌, ◌++◌, length, take, drop, Option, Some, refl, ap, sym, subst, ◌∙◌, arith, get_or, append-nil, append_assoc, length-append, IsSomeAnd, inl, inr, slice_get, ◌⊎◌}
+use Rattle.std.specs.Prelude.{slice_range, All, AllPairs}
 use Rattle.std.specs.List.{range_with_len}
 use mathlib.Core.List.{IsPrefix}
 use Rattle.criteria_model.specs.declared.pairs.Side.{Side}
@@ -11,7 +11,7 @@ use Rattle.survey_core.specs.declared.events.Event.TheVariants.{Eliminate, Close
 use Rattle.survey_core.specs.Kinds.{issued_place}
 use Rattle.std.proofs.lemmas.List.Elements.{filter_map-append}
 use Rattle.survey_core.specs.Histories.{issued, place_of, is_eliminated}
-use Rattle.survey_core.proofs.ListSteps.{some_and, some_at, take_whole, Each-All, slice_get-last}
+use Rattle.survey_core.proofs.ListSteps.{Each, Each-map, All-Each, some_and, some_at, take_whole, Each-All, slice_get-last}
 use Rattle.survey_replies.specs.Requests.{Request}
 use Rattle.survey_replies.specs.Requests as request
 use Rattle.survey_replies.specs.declared.replies.NextReply.TheVariants.{Question}
@@ -32,7 +32,7 @@ use Rattle.survey_replies.specs.Records.{Records, AreRankedByEvents, is_question
 use Rattle.survey_replies.specs.Calls.{read_by, end_of, places_of, Seen, HasEliminateOf, IsCall, Prepares, RepliesInTurn, TakesTurn, IsEliminateOf, IsEliminateFor, HasEliminateFor}
 use Rattle.survey_replies.specs.Outcomes.{at_of}
 use Rattle.survey_replies.specs.CallLaws.{CallIsMade, EliminationPrepares, NothingPrepares, PreparationsJoin}
-use Rattle.survey_replies.proofs.CallLemmas.{prefix_length, prefix_trans, is_eliminate_more, eliminate_longer}
+use Rattle.survey_replies.proofs.CallLemmas.{pairs_cons, prefix_length, prefix_trans, is_eliminate_more, eliminate_longer}
 
 -- ---- how many events a reply appends
 next_count : (desk : ℕ) (history : List Event) (reply : NextReply) (events : List Event) → Records desk history request.next (outcome.next reply) events
@@ -115,6 +115,7 @@ call_is_made_lem listed desk before middle after found asked reply prepares turn
       later = omega (arith, replied.at, prefix_length before.journal middle.journal prepares.longer, prefix_length middle.journal found turn.later);
       ends = sym ends;
       eliminated = prepares.eliminated;
+      once = prepares.once;
       eliminations =
           λ k d within.
           (let h = prepares.eliminations k d within in
@@ -123,10 +124,30 @@ call_is_made_lem listed desk before middle after found asked reply prepares turn
           ∙ ap (λ (l : List ℕ). before.own ++ prepares.eliminated ++ l) places;
     }
 
+-- ---- rising lists
+rising_tail : (x : ℕ) (xs : List ℕ) → AllPairs (λ one other. one < other) (x ∷ xs) → AllPairs (λ one other. one < other) xs
+rising_tail x xs rising i j d less within = rising (suc i) (suc j) d (omega arith) (omega arith)
+
+rising_head : (x : ℕ) (xs : List ℕ) → AllPairs (λ one other. one < other) (x ∷ xs) → All (λ y. x < y) xs
+rising_head x xs rising k d within = rising 0 (suc k) d (omega arith) (omega arith)
+
+rising_append : (xs ys : List ℕ) (middle : ℕ) → AllPairs (λ one other. one < other) xs → AllPairs (λ one other. one < other) ys
+    → Each (λ x. x < middle) xs → Each (λ y. middle ≤ y) ys → AllPairs (λ one other. one < other) (xs ++ ys)
+rising_append [] ys middle one other low high = other
+rising_append (x ∷ xs) ys middle one other low high =
+    pairs_cons (λ one other. one < other) x (xs ++ ys)
+    (All-append (λ y. x < y) xs ys (rising_head x xs one)
+    (Each-All (λ y. x < y) ys (Each-map (λ y. middle ≤ y) (λ y. x < y) (λ y h. omega (arith, h, low.0)) ys high)))
+    (rising_append xs ys middle (rising_tail x xs one) other low.1 high)
+
 pub preparations_join_lem : PreparationsJoin
 preparations_join_lem asked before middle after one other = record {
   longer = prefix_trans before.journal middle.journal after.journal one.longer other.longer;
   eliminated = one.eliminated ++ other.eliminated;
+  once =
+      rising_append one.eliminated other.eliminated (length middle.journal) one.once other.once
+      (All-Each (λ place. place < length middle.journal) one.eliminated (λ k d within. (one.eliminations k d within).1))
+      (All-Each (λ place. length middle.journal ≤ place) other.eliminated (λ k d within. (other.eliminations k d within).0));
   eliminations =
       All-append (λ place. (length before.journal ≤ place) × (place < length after.journal) × HasEliminateFor after.journal asked place) one.eliminated other.eliminated
       (λ k d within.
@@ -153,6 +174,7 @@ elimination_prepares_lem asked before after found event turn is same =
     record {
       longer = prefix_trans before.journal found after.journal turn.later turn.longer;
       eliminated = length found ∷ [];
+      once = λ i j d less within. absurd (omega arith);
       eliminations =
           Each-All (λ place. (length before.journal ≤ place) × (place < length after.journal) × HasEliminateFor after.journal asked place) (length found ∷ [])
           ((prefix_length before.journal found turn.later, omega arith, elimination_there asked found after.journal event is same), tt);
@@ -165,6 +187,7 @@ nothing_prepares_lem asked before after found turn same =
     record {
       longer = prefix_trans before.journal found after.journal turn.later turn.longer;
       eliminated = [];
+      once = λ i j d less within. absurd (omega arith);
       eliminations = λ k d within. absurd (omega arith);
       own = turn.own ∙ ap (λ (n : ℕ). before.own ++ range_with_len (length found) n) none;
     }

@@ -1,5 +1,5 @@
 -- What conversations come to.
-use Rattle.std.specs.Prelude.{◌≡◌, ℕ, ◌+◌, ◌<◌, ◌≤◌, List, [], ◌∷◌, ◌++◌, slice_get, Some, All, AllPairs}
+use Rattle.std.specs.Prelude.{◌≡◌, ℕ, ◌+◌, ◌<◌, ◌≤◌, List, [], ◌∷◌, ◌++◌, length, slice_get, Some, All, AllPairs}
 use mathlib.Core.List.{IsPrefix}
 use Rattle.pair_enumeration.specs.Listed.{Listed}
 use Rattle.survey_core.specs.declared.events.Event.{Event}
@@ -58,6 +58,14 @@ abbrev pub NoPlaceFalls : Type 0
 NoPlaceFalls =
     (listed : Listed) (desk : ℕ) (before after : Seen) (exchanges : List Exchange) → Conversation listed desk before after exchanges
     → AllPairs (λ one other. end_of after.journal one.reply ≤ at_of other.reply) exchanges
+
+-- what a conversation made stands from its start on: each reply, and each place that became own
+abbrev pub PlacesFromStart : Type 0
+PlacesFromStart =
+    (listed : Listed) (desk : ℕ) (before after : Seen) (exchanges : List Exchange) → Conversation listed desk before after exchanges
+    → All (λ exchange. length before.journal ≤ at_of exchange.reply) exchanges
+    × ((place : ℕ) → occurrences place before.own < occurrences place after.own
+    → (length before.journal ≤ place) × (place < length after.journal))
 
 -- the event is no Eliminate
 abbrev pub IsNoEliminate : Event → Type 0

@@ -1,6 +1,6 @@
 -- Calls of a respondent: what the journal and the respondent's own places in it have to do with the replies. Places in the journal
 -- count from 0: the event at a place comes after as many others.
-use Rattle.std.specs.Prelude.{◌≡◌, ℕ, ◌+◌, ◌-◌, ◌<◌, ◌≤◌, ◌==◌, List, [], ◌∷◌, ◌++◌, length, take, slice_get, slice_range, count_by, Some, All, IsSomeAnd}
+use Rattle.std.specs.Prelude.{◌≡◌, ℕ, ◌+◌, ◌-◌, ◌<◌, ◌≤◌, ◌==◌, List, [], ◌∷◌, ◌++◌, length, take, slice_get, slice_range, count_by, Some, All, AllPairs, IsSomeAnd}
 use Rattle.std.specs.List.{flat_map, range_with_len}
 use mathlib.Core.List.{IsPrefix}
 use Rattle.pair_enumeration.specs.Listed.{Listed}
@@ -35,7 +35,7 @@ pub record IsReplyIn (listed : Listed) (desk : ℕ) (journal : List Event) (requ
   pub ranked : AreRankedByEvents listed (read_by journal reply) reply
   pub appended : Records desk (read_by journal reply) request reply (slice_range journal (at_of reply) (end_of journal reply))
 
--- the journal as a respondent has seen it, and the places that are its own
+-- the journal as a respondent has seen it, and the places that are its own, counted from 0: `event` takes the place plus 1
 pub record Seen : Type 0 where
   pub journal : List Event
   pub own : List ℕ
@@ -76,9 +76,10 @@ pub record IsCall (listed : Listed) (desk : ℕ) (before after : Seen) (request 
   pub longer : IsPrefix before.journal after.journal
   pub later : length before.journal ≤ at_of reply
   pub ends : length after.journal ≡ end_of after.journal reply
-  -- the Eliminates that the call appended before its last turn
+  -- the places of the Eliminates that the call appended before its last turn, each once
   pub eliminated : List ℕ
   pub eliminations : All (λ place. (length before.journal ≤ place) × (place < at_of reply) × HasEliminateFor after.journal request place) eliminated
+  pub once : AllPairs (λ one other. one < other) eliminated
   pub own : after.own ≡ before.own ++ eliminated ++ places_of after.journal reply
 
 -- eliminations for a request, before its reply: the journal seen grows, and the places of these Eliminates become own
@@ -86,6 +87,7 @@ pub record Prepares (request : Request) (before after : Seen) : Type 0 where
   pub longer : IsPrefix before.journal after.journal
   pub eliminated : List ℕ
   pub eliminations : All (λ place. (length before.journal ≤ place) × (place < length after.journal) × HasEliminateFor after.journal request place) eliminated
+  pub once : AllPairs (λ one other. one < other) eliminated
   pub own : after.own ≡ before.own ++ eliminated
 
 -- a reply made in one turn, on the journal that the turn found, to which it appends

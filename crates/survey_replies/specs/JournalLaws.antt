@@ -1,5 +1,5 @@
 -- A journal as a whole: desks' conversations and eliminators that made it, each event once.
-use Rattle.std.specs.Prelude.{◌≡◌, ◌⊎◌, ℕ, ◌<◌, List, ◌++◌, length, slice_get, Some, All, Any}
+use Rattle.std.specs.Prelude.{◌≡◌, ◌≢◌, ◌⊎◌, ℕ, ◌<◌, ◌≤◌, List, ◌++◌, length, slice_get, Some, All, AllPairs, Any}
 use Rattle.std.specs.List.{flat_map}
 use mathlib.Core.List.{IsPrefix}
 use Rattle.criteria_model.specs.declared.pairs.Side.{Side}
@@ -11,7 +11,7 @@ use Rattle.survey_replies.specs.Outcomes.{Exchange}
 use Rattle.survey_replies.specs.Calls.{Seen, unseen, HasEliminateOf, Conversation, reply_places, occurrences}
 use Rattle.survey_replies.specs.CallLaws.{IsNoEliminate}
 
--- what a desk's sessions brought back, one after the other
+-- what all sessions of a desk brought back, one after the other
 pub record DeskRun : Type 0 where
   pub desk : ℕ
   pub exchanges : List Exchange
@@ -22,10 +22,12 @@ pub record WorkerRun : Type 0 where
   pub worker : ℕ
   pub own : List ℕ
 
--- conversations and eliminators whose own places are once each place of the journal
+-- one conversation of each desk, and eliminators, whose own places are once each place of the journal
 pub record MakesJournal (listed : Listed) (journal : List Event) (desks : List DeskRun) (workers : List WorkerRun) : Type 0 where
   pub conversations : All (λ run. Conversation listed run.desk unseen run.seen run.exchanges × IsPrefix run.seen.journal journal) desks
   pub eliminations : All (λ run. All (HasEliminateOf run.worker journal) run.own) workers
+  pub distinct : AllPairs (λ one other. one.desk ≢ other.desk) desks
+  pub numbered : All (λ run. 1 ≤ run.worker) workers
   pub once : (place : ℕ) → place < length journal
       → occurrences place (flat_map (λ run. run.seen.own) desks ++ flat_map (λ run. run.own) workers) ≡ 1
 

@@ -46,7 +46,7 @@ module _ (listed : Listed) (now : Interview) where
   abbrev pub IsDue : ℕ → Type 0
   IsDue place = IsFirst IsUnaskedOpenClass place
 
-  -- as many questions are open as may be
+  -- four or more questions are open
   abbrev pub IsFull : Type 0
   IsFull = MAX_OPEN_QUESTIONS ≤ length now.open_questions
 
@@ -92,7 +92,8 @@ module _ (listed : Listed) (now : Interview) where
   IsWithdrawReply (Nothing at) = now.answers ≡ []
   IsWithdrawReply (Spent at) = (1 ≤ length now.answers) × AreSpent
   IsWithdrawReply (Withdrawn at answer question) =
-      (1 ≤ length now.answers) × (¬ AreSpent) × (answer ≡ length now.answers) × (item_at now.answered answer ≡ Some question)
+      (1 ≤ length now.answers) × (¬ AreSpent) × (answer ≡ length now.answers)
+      × (item_at now.answered (length now.answered) ≡ Some question)
 
   -- the reply to a request
   abbrev pub IsReplyTo : Request → Outcome → Type 0

@@ -1,6 +1,6 @@
 //! Laws of replies. Each function does nothing; its contract is the law.
-ghost use Rattle.survey_replies.specs.Laws.{OneReply, OneReplyOnHistory, HasReply, EliminationsChangeNoReply};
-ghost use Rattle.survey_replies.specs.CallLaws.{ReplyStays, CallIsMade, EliminationPrepares, NothingPrepares, PreparationsJoin, ConversationsJoin, RepliesStand, NoPlaceFalls, OwnAreOfReplies, OwnEliminatesAreDesks};
+ghost use Rattle.survey_replies.specs.Laws.{OneReply, OneReplyOnHistory, EliminationsChangeNoReply};
+ghost use Rattle.survey_replies.specs.CallLaws.{ReplyStays, CallIsMade, EliminationPrepares, NothingPrepares, PreparationsJoin, ConversationsJoin, RepliesStand, NoPlaceFalls, PlacesFromStart, OwnAreOfReplies, OwnEliminatesAreDesks};
 ghost use Rattle.survey_replies.specs.JournalLaws.{EachHasOneReply, EachEliminateHasItsWorker};
 ghost use Rattle.survey_replies.specs.PlainLaws.{AloneIsPlain, AloneIsThePlain, OneDeskIsPlain};
 
@@ -12,11 +12,6 @@ pub fn one_reply()
 /// Certificates apart, a request has one reply at most on a legal history.
 pub fn one_reply_on_history()
     ensures { OneReplyOnHistory }
-{}
-
-/// A request has a reply on a legal history, where the answers rank each class or leave it open.
-pub fn has_reply()
-    ensures { HasReply }
 {}
 
 /// An elimination changes no reply.
@@ -42,6 +37,11 @@ pub fn replies_stand()
 /// No reply is made before the last turn of an earlier one.
 pub fn no_place_falls()
     ensures { NoPlaceFalls }
+{}
+
+/// What a conversation made stands from its start on.
+pub fn places_from_start()
+    ensures { PlacesFromStart }
 {}
 
 /// An event that is no elimination is a conversation's own as often as a reply appended it.

@@ -11,7 +11,7 @@ pub enum NextReply {
         place: u32,
         pair: Pair,
     },
-    /// As many questions are open as may be.
+    /// Four or more questions are open.
     Full {
         at: u32,
     },

@@ -1,7 +1,7 @@
 ghost use Rattle.std.specs.Prelude.{◌≡◌, ℕ, ◌≤◌, List, Some, length, IfOk, OnErr};
 ghost use Rattle.pair_enumeration.specs.Listed.{Listed, IsListed};
 ghost use Rattle.survey_core.specs.Histories.{item_at, class_at};
-ghost use Rattle.survey_core.specs.Legal.{IsPlace, IsLegal};
+ghost use Rattle.survey_core.specs.Legal.{IsDesk, IsPlace, IsLegal};
 ghost use Rattle.survey_replies.specs.Requests as request;
 ghost use Rattle.survey_replies.specs.Outcomes as outcome;
 ghost use Rattle.survey_replies.specs.Calls.{Seen, Watches, IsCall};
@@ -23,7 +23,7 @@ pub trait Events {
     // The journal seen, and the places of it that are one's own.
     ghost seen: { Self → Seen };
 
-    // What a call needs of its surroundings, where it waits for others.
+    // What a call needs of its surroundings where it may wait for others; `Unit` where nobody is waited for.
     ghost can_wait: { Type 0 };
 
     /// How many events were seen.
@@ -57,6 +57,7 @@ pub trait Respondent: Events {
         requires { Self.can_wait }
         ensures call { IsCall (Self.listed (Self.about self.old)) (desk (Self.about self.old)) (Self.seen self.old) (Self.seen self.new)
             request.next (outcome.next result) }
+        ensures desk { IsDesk (desk (Self.about self.old)) }
         ensures same { Self.about self.new ≡ Self.about self.old };
 
     /// Takes an answer to a question.
@@ -64,6 +65,7 @@ pub trait Respondent: Events {
         requires { Self.can_wait }
         ensures call { IsCall (Self.listed (Self.about self.old)) (desk (Self.about self.old)) (Self.seen self.old) (Self.seen self.new)
             (request.answer question side) (outcome.answer result) }
+        ensures desk { IsDesk (desk (Self.about self.old)) }
         ensures same { Self.about self.new ≡ Self.about self.old };
 
     /// Values that meet the answers.
@@ -71,6 +73,7 @@ pub trait Respondent: Events {
         requires { Self.can_wait }
         ensures call { IsCall (Self.listed (Self.about self.old)) (desk (Self.about self.old)) (Self.seen self.old) (Self.seen self.new)
             request.values (outcome.values result) }
+        ensures desk { IsDesk (desk (Self.about self.old)) }
         ensures same { Self.about self.new ≡ Self.about self.old };
 
     /// Takes back the last answer.
@@ -83,5 +86,6 @@ pub trait Respondent: Events {
         ensures call { IfOk result (λ reply. IsCall (Self.listed (Self.about self.old)) (desk (Self.about self.old))
             (Self.seen self.old) (Self.seen self.new) request.withdraw (outcome.withdraw reply)) }
         ensures quiet { OnErr result (Watches (Self.seen self.old) (Self.seen self.new)) }
+        ensures desk { IsDesk (desk (Self.about self.old)) }
         ensures same { Self.about self.new ≡ Self.about self.old };
 }

@@ -8,11 +8,11 @@ use Rattle.criteria_model.specs.declared.pairs.Pair.{Pair}
 use Rattle.criteria_model.specs.declared.pairs.Answer.{Answer}
 use Rattle.criteria_model.specs.Answers.{IsRanked, IsOpen}
 use Rattle.farkas_check.specs.declared.combination.Combination.{Combination}
-use Rattle.pair_enumeration.specs.Listed.{Listed}
+use Rattle.pair_enumeration.specs.Listed.{Listed, IsListed}
 use Rattle.survey_core.specs.declared.events.Event.{Event}
 use Rattle.survey_core.specs.declared.events.Event.TheVariants.{Eliminate, Issue, Commit, Close, Withdraw}
 use Rattle.survey_core.specs.Histories.{item_at, standing, issued, is_unended, open_questions, committed, class_at, class_of, place_of}
-use Rattle.survey_core.specs.Legal.{IsPlace, most_events}
+use Rattle.survey_core.specs.Legal.{IsPlace, most_events, IsLegal}
 use Rattle.survey_core.specs.declared.limits.TheConstants.{MAX_EVENTS, MAX_OPEN_QUESTIONS}
 use Rattle.survey_core.proofs.ListSteps.{Each, some_and, filtered_range}
 use Rattle.row_laws.proofs.ItemLemmas.{item_found, item_within, item_inside}
@@ -28,10 +28,17 @@ use Rattle.survey_replies.specs.declared.replies.ValuesReply.{ValuesReply}
 use Rattle.survey_replies.specs.declared.replies.ValuesReply.TheVariants.{Values, Incomplete}
 use Rattle.survey_replies.specs.declared.replies.WithdrawReply.{WithdrawReply}
 use Rattle.survey_replies.specs.declared.replies.WithdrawReply.TheVariants.{Withdrawn, Nothing, Spent}
+use Rattle.survey_replies.specs.Requests.{Request}
+use Rattle.survey_replies.specs.Outcomes.{Outcome}
 use Rattle.survey_replies.specs.Outcomes as outcome
 use Rattle.survey_replies.specs.Interview.{Interview, interview, answered, answered_question}
-use Rattle.survey_replies.specs.ReplyLaw.{IsFirst, IsOpenClass, HasOpenClass, IsUnaskedOpenClass, IsQuestion, AreSpent, IsNextReply, IsAnswerReply, IsValuesReply, IsWithdrawReply}
-use Rattle.survey_replies.specs.Laws.{AreDecided, HasReply}
+use Rattle.survey_replies.specs.ReplyLaw.{IsFirst, IsOpenClass, HasOpenClass, IsUnaskedOpenClass, IsQuestion, AreSpent, IsNextReply, IsAnswerReply, IsValuesReply, IsWithdrawReply, IsReplyTo}
+use Rattle.reply_laws.specs.Laws.{IsDecided}
+
+-- the answers rank each class or leave it open
+abbrev pub AreDecided : Listed → Interview → Type 0
+AreDecided listed now =
+    (place : ℕ) (pair : Pair) → class_at listed.classes place ≡ Some pair → IsDecided listed.criteria.levels now.answers pair
 
 -- the least number of a kind below a bound, or none
 search_first : (Is : ℕ → Type 0) → ((n : ℕ) → Is n ⊎ (¬ Is n)) → (bound : ℕ)
@@ -172,8 +179,8 @@ module _ (listed : Listed) (now : Interview) (decided : AreDecided listed now) w
       elim spent_test [
         | inl spent ↦ (Spent 0, (some, spent))
         | inr unspent ↦
-            (let last : (question : ℕ) × (item_at now.answered (length now.answers) ≡ Some question) =
-            item_inside now.answered (length now.answers) some (omega arith) in
+            (let last : (question : ℕ) × (item_at now.answered (length now.answered) ≡ Some question) =
+            item_inside now.answered (length now.answered) (omega arith) (omega arith) in
             (Withdrawn 0 (length now.answers) last.0, (some, unspent, refl, last.1)))
       ]
 
@@ -205,7 +212,8 @@ unended_test history question some within =
     ]
     in go (is_unended history question) refl
 
-pub has_reply_lem : HasReply
+pub has_reply_lem : (listed : Listed) (history : List Event) (request : Request) → IsListed listed → IsLegal listed history
+    → AreDecided listed (interview listed history) → (reply : Outcome) × IsReplyTo listed (interview listed history) request reply
 has_reply_lem listed history request.next model legal decided =
     let found : (reply : NextReply) × IsNextReply listed (interview listed history) reply = next_reply listed (interview listed history) decided in
     (outcome.next found.0, found.1)
