@@ -1,0 +1,35 @@
+use Rattle.std.proofs.Common.{◌≡◌, length, vec_len, Some, sym, ap, ◌∙◌, rules, arith}
+use Rattle.question_queue.specs.Pools.{Pooled, given_out}
+use Rattle.question_queue.proofs.Places.{item_at}
+use Rattle.question_queue.proofs.PoolLaws.{job_within, given_keeps, given_out_is}
+use Rattle.question_queue.proofs.pool.Pool.next_job.Goals as goal
+
+pub index_mut-requires : goal.index_mut-requires
+index_mut-requires c =
+    let size : vec_len c.self.inside.marks ≡ length c.self.inside.marks.items = search rules in
+    omega (arith, size, (job_within c.args.self.now c.self.inside.marks.items c.self.inside.kept.items c.args.version c.find_job-index.result c.len.result c.self.view_is c.find_job-index.ensures (search rules) c.if-index-len.false).1)
+
+pub overflow_add-self : goal.overflow_add-self
+overflow_add-self c =
+    omega (arith, c.self.invariant.few, (job_within c.args.self.now c.self.inside.marks.items c.self.inside.kept.items c.args.version c.find_job-index.result c.len.result c.self.view_is c.find_job-index.ensures (search rules) c.if-index-len.false).1)
+
+pub overflow_cast-result : goal.overflow_cast-result
+overflow_cast-result c =
+    omega (arith, c.self.invariant.few, (job_within c.args.self.now c.self.inside.marks.items c.self.inside.kept.items c.args.version c.find_job-index.result c.len.result c.self.view_is c.find_job-index.ensures (search rules) c.if-index-len.false).1)
+
+pub overflow_add-result : goal.overflow_add-result
+overflow_add-result c =
+    omega (arith, c.self.invariant.few, (job_within c.args.self.now c.self.inside.marks.items c.self.inside.kept.items c.args.version c.find_job-index.result c.len.result c.self.view_is c.find_job-index.ensures (search rules) c.if-index-len.false).1)
+
+pub invariant_of-self-2 : goal.invariant_of-self-2
+invariant_of-self-2 c =
+    let found = job_within c.args.self.now c.self.inside.marks.items c.self.inside.kept.items c.args.version c.find_job-index.result c.len.result c.self.view_is c.find_job-index.ensures (search rules) c.if-index-len.false in
+    given_keeps c.self.inside.marks.items c.self.inside.kept.items _ _ _ _ c.args.version c.find_job-index.result c.index_mut.result.now c.self.invariant
+    (item_at c.self.inside.marks.items c.find_job-index.result c.index_mut.result.now found.1 ∙ ap Some (sym c.index_mut.ensures.value)) found.0
+
+pub returns-clause-marks : goal.returns-clause-marks
+returns-clause-marks c =
+    let found = job_within c.args.self.now c.self.inside.marks.items c.self.inside.kept.items c.args.version c.find_job-index.result c.len.result c.self.view_is c.find_job-index.ensures (search rules) c.if-index-len.false in
+    given_out_is c.args.version c.self.inside.marks.items c.find_job-index.result c.index_mut.result.now found.0
+    (item_at c.self.inside.marks.items c.find_job-index.result c.index_mut.result.now found.1 ∙ ap Some (sym c.index_mut.ensures.value))
+    ∙ ap (λ (v : Pooled). given_out c.args.version v.marks) c.self.view_is
