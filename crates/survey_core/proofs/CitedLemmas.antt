@@ -1,4 +1,4 @@
--- A proof speaks of the answers that it cites alone.
+-- A proof speaks only of the answers that it cites.
 use Rattle.std.proofs.Common.{◌≡◌, ℕ, suc, ◌+◌, ◌-◌, ◌<◌, ◌≤◌, List, [], ◌∷◌, length, map, take, get_or, slice_index, Some, All, Any, Option, slice_get, ℤ, ◌+ℤ◌, ◌*ℤ◌, refl, ap, ap₂, sym, subst, ◌∙◌, inl, inr, arith, append-nil, length-take}
 use Rattle.std.specs.Option.{option_map_or}
 use Rattle.std.specs.List.Sorted.{IsStrictlyIncreasing}

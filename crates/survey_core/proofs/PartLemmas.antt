@@ -46,7 +46,7 @@ none_fails (first ∷ later) proper name all (inl h) = proper.0.not_both name h 
 none_fails (first ∷ later) proper name all (inr h) = none_fails later proper.1 name all.1 h.1
 
 -- ---- the flaws of a combination, by their numbers
--- the first so many parts hold
+-- the first parts hold, up to this number
 abbrev AllBelow : (ℕ → Type 0) → ℕ → Type 0
 AllBelow holds zero = Unit {0}
 AllBelow holds (suc n) = AllBelow holds n × holds n

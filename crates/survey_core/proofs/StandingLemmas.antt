@@ -52,7 +52,7 @@ numbered-append before (x ∷ xs) ys =
     let head : Resting = record { level = rests_on before x; event = x } in
     ap (λ rest. head ∷ rest) (numbered-append (before + step x) xs ys ∙ ap (λ n. numbered (before + step x) xs ++ numbered n ys) (omega arith))
 
--- an Eliminate cites answers up to n alone
+-- an Eliminate cites only answers up to n
 abbrev pub CitesUpTo : ℕ → Event → Type 0
 CitesUpTo n (Eliminate worker place verdict combination) = greatest_cited combination.answers ≤ n
 CitesUpTo n (Issue desk place plus minus) = Unit {0}
@@ -100,7 +100,7 @@ same_base b c event rest t head ih =
           ap (λ level. first level ∷ numbered (b + step event) rest) head ∙ ap (λ others. first (rests_on c event) ∷ others) (ih (b + step event) (c + step event)))
     ]
 
--- behind the last Commit nothing is left whose number rests on what stands before it
+-- after the last Commit nothing is left whose number rests on what stands before it
 numbered_base : (n : ℕ) (events : List Event) → commit_count events ≡ 0 → (b c : ℕ) → numbered b (without_taken n true events) ≡ numbered c (without_taken n true events)
 numbered_base n [] none b c = refl
 numbered_base n (Eliminate worker place verdict combination ∷ later) none b c =
@@ -149,7 +149,7 @@ numbered-without n events count some within =
     ∙ numbered-taken 0 n events (omega arith) some within
 
 module _ {Y : Type 0} (f : Event → Option Y) where
-  -- the function gives something of Commits, and of them alone
+  -- the function gives something of Commits only
   abbrev pub OfCommits : Event → Type 0
   OfCommits (Eliminate worker place verdict combination) = f (Eliminate worker place verdict combination) ≡ None
   OfCommits (Issue desk place plus minus) = f (Issue desk place plus minus) ≡ None

@@ -24,7 +24,7 @@ abbrev pub greatest_cited : List Cite → ℕ
 greatest_cited [] = 0
 greatest_cited (cite ∷ cites) = max cite.answer (greatest_cited cites)
 
--- on how many answers a standing event rests, where so many Commits stand before it: it stays for as long as these stand
+-- on how many answers a standing event rests, where that many Commits stand before it: it stays for as long as these stand
 abbrev pub rests_on : ℕ → Event → ℕ
 rests_on before (Eliminate worker place verdict combination) = greatest_cited combination.answers
 rests_on before (Issue desk place plus minus) = 0
@@ -37,7 +37,7 @@ pub record Resting : Type 0 where
   pub level : ℕ
   pub event : Event
 
--- the standing events, each with that number, where so many Commits stand before them
+-- the standing events, each with that number, where that many Commits stand before them
 abbrev pub numbered : ℕ → List Event → List Resting
 numbered before [] = []
 numbered before (event ∷ later) =
@@ -119,7 +119,7 @@ is_open (Closed level) = false
 abbrev pub is_open_mark : Question → Bool
 is_open_mark question = is_open question.ending
 
--- the first so many classes are ranked or issued
+-- the first classes, up to this number, are ranked or issued
 abbrev pub AreSettled : List Mark → ℕ → Type 0
 AreSettled classes count = (k : ℕ) (mark : Mark) → k < count → slice_get classes k ≡ Some mark → IsTrue (is_settled mark)
 
@@ -168,7 +168,7 @@ left_ending answer (Closed level) = if nat_lt level answer then Closed level els
 abbrev pub left_question : ℕ → Question → Question
 left_question answer question = record { place = question.place; ending = left_ending answer question.ending }
 
--- a Commit that is one of the first so many answers
+-- a Commit that is one of the first answers, up to this number
 abbrev pub is_number_up_to : ℕ → Ranking → Bool
 is_number_up_to most Unranked = false
 is_number_up_to most (Eliminated level) = false
@@ -186,7 +186,7 @@ pub record IsMark (history : List Event) (place : ℕ) (mark : Mark) : Type 0 wh
 pub record IsQuestionMark (history : List Event) (number : ℕ) (question : Question) : Type 0 where
   pub ending : endings number (resting history) ≡ marked_endings question.ending
 
--- the table of a history with so many answers
+-- the table of a history with this many answers
 pub record IsTableOf (listed : Listed) (history : List Event) (answers : ℕ) (table : Table) : Type 0 where
   pub len : length table.classes ≡ length listed.classes
   pub each_class : (k : ℕ) (mark : Mark) → slice_get table.classes k ≡ Some mark → IsMark history (k + 1) mark

@@ -46,7 +46,7 @@ pub fn ranked_has_ranking()
     ensures { RankedHasRanking }
 {}
 
-/// A class of a legal history has one ranking alone.
+/// A class of a legal history has only one ranking.
 pub fn each_has_one_ranking()
     ensures { EachHasOneRanking }
 {}

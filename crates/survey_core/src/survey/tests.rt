@@ -273,7 +273,7 @@ fn withdrawn_answer(rt: HostRuntime) -> Result<(), Fail> {
     run(&rt, rt.alloc(), &rows)
 }
 
-/// All classes are ranked; then a withdrawal leaves the eliminations that rest on the first answer alone.
+/// All classes are ranked; then a withdrawal leaves the eliminations that rest only on the first answer.
 #[test]
 fn complete_and_back(rt: HostRuntime) -> Result<(), Fail> {
     let rows = [
