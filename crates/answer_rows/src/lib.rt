@@ -5,7 +5,7 @@
 //! `push`: `grow` takes memory by doubling, so that most calls return at once.
 #![tactic(auto)]
 
+mod answers;
+
 pub use answers::Answers;
 pub use criteria_model::Answer;
-
-mod answers;

@@ -11,14 +11,6 @@
 //! lists of levels, `differences` makes rows.
 #![tactic(auto)]
 
-pub use faults::ModelFault;
-pub use limits::{CERTIFICATE_BOUND, MAX_CLASSES, MAX_INCREMENTS, MAX_LEVEL};
-pub use models::Model;
-pub use pairs::{Answer, Dominance, Pair, Side};
-pub use rows::Row;
-pub use tuples::Tuple;
-pub use vectors::Vector;
-
 mod counting;
 mod differences;
 mod faults;
@@ -30,3 +22,11 @@ mod pairs;
 mod rows;
 mod tuples;
 mod vectors;
+
+pub use faults::ModelFault;
+pub use limits::{CERTIFICATE_BOUND, MAX_CLASSES, MAX_INCREMENTS, MAX_LEVEL};
+pub use models::Model;
+pub use pairs::{Answer, Dominance, Pair, Side};
+pub use rows::Row;
+pub use tuples::Tuple;
+pub use vectors::Vector;

@@ -10,11 +10,6 @@
 //! and go into it only where these differ.
 #![tactic(auto)]
 
-pub use cites::{Cite, Cites, MAX_CITES};
-pub use combination::Combination;
-pub use flaws::Flaw;
-pub use proof::{flaw, proves};
-
 mod cites;
 mod combination;
 mod flaws;
@@ -22,3 +17,8 @@ pub mod laws;
 mod parts;
 mod proof;
 mod sums;
+
+pub use cites::{Cite, Cites, MAX_CITES};
+pub use combination::Combination;
+pub use flaws::Flaw;
+pub use proof::{flaw, proves};

@@ -10,11 +10,11 @@
 //! list.
 #![tactic(auto)]
 
-pub use classes::Classes;
-pub use flips::Flip;
-
 mod classes;
 mod flips;
 pub mod laws;
 mod search;
 mod walks;
+
+pub use classes::Classes;
+pub use flips::Flip;

@@ -8,9 +8,9 @@
 //! model's levels, `laws` what holds of both definitions.
 #![tactic(auto)]
 
-pub use apportionment::{Shares, WHOLE};
-pub use values::{level_value, shares};
-
 mod apportionment;
 pub mod laws;
 mod values;
+
+pub use apportionment::{Shares, WHOLE};
+pub use values::{level_value, shares};

@@ -13,12 +13,6 @@
 //! answer n takes out what rests on n answers, in one walk over classes and questions.
 #![tactic(auto)]
 
-pub use broken::Broken;
-pub use events::Event;
-pub use limits::{MAX_DESKS, MAX_EVENTS, MAX_OPEN_QUESTIONS, MAX_WORKERS, spent};
-pub use questions::QuestionState;
-pub use survey::Core;
-
 mod broken;
 mod events;
 pub mod laws;
@@ -26,3 +20,9 @@ mod limits;
 mod marks;
 mod questions;
 mod survey;
+
+pub use broken::Broken;
+pub use events::Event;
+pub use limits::{MAX_DESKS, MAX_EVENTS, MAX_OPEN_QUESTIONS, MAX_WORKERS, spent};
+pub use questions::QuestionState;
+pub use survey::Core;

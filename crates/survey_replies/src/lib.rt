@@ -7,9 +7,9 @@
 //! reply, replies stay right in longer journals, each event belongs to one reply, and eliminations change no reply.
 #![tactic(auto)]
 
-pub use replies::{AnswerReply, NextReply, ValuesReply, WithdrawReply};
-pub use respondent::{Events, Respondent};
-
 pub mod laws;
 mod replies;
 mod respondent;
+
+pub use replies::{AnswerReply, NextReply, ValuesReply, WithdrawReply};
+pub use respondent::{Events, Respondent};

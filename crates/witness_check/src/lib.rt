@@ -5,6 +5,6 @@
 //! call takes memory.
 #![tactic(auto)]
 
-pub use witnesses::{meets, meets_from, opens};
-
 mod witnesses;
+
+pub use witnesses::{meets, meets_from, opens};
