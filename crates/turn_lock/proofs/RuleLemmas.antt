@@ -11,10 +11,10 @@ use Rattle.turn_lock.specs.declared.rule.View.{View}
 use Rattle.turn_lock.specs.declared.rule.Stage.{Stage}
 use Rattle.turn_lock.specs.declared.rule.Stage.TheVariants.{Outside, Waiting, Served}
 use Rattle.turn_lock.specs.declared.limits.TheConstants.{MAX_SEATS}
-use Rattle.turn_lock.specs.Rule.{total, is_out, is_served, has_ticket, Knows, spent, IsSeated, out, served}
+use Rattle.turn_lock.specs.Rule.{sum_over, is_out, is_served, has_ticket, Knows, spent, IsSeated, out, served}
 use Rattle.turn_lock.specs.Rule.{with_ticket, owners, weight_of_all, is_home, HoldsState, ObeysRule}
 use Rattle.turn_lock.specs.Steps.{ticket_of, log_of, is_inside}
-use Rattle.turn_lock.proofs.Totals.{total_set, total_le}
+use Rattle.turn_lock.proofs.Totals.{sum_over_set, sum_over_le}
 
 module _ {V : Type 0} where
   -- what holds of the changed view and of each other one holds of all
@@ -26,8 +26,8 @@ module _ {V : Type 0} where
       (λ (t : (j ≢ id) × (get_elem? vs j ≡ some d)). others j d t.0 t.1)
       (at_set vs id j w d e)
 
-  pub total_same : (f : V → ℕ) (vs : List V) (id : ℕ) (v w : V) → get_elem? vs id ≡ some v → f w ≡ f v → total f (set vs id w) ≡ total f vs
-  total_same f vs id v w at e = let t = total_set f vs id v w at in omega arith
+  pub sum_over_same : (f : V → ℕ) (vs : List V) (id : ℕ) (v w : V) → get_elem? vs id ≡ some v → f w ≡ f v → sum_over f (set vs id w) ≡ sum_over f vs
+  sum_over_same f vs id v w at e = let t = sum_over_set f vs id v w at in omega arith
 
 module _ {E : Type 0} where
   pub knows_unserved : (serving : ℕ) (log : List E) (st : Stage E) → is_served st ≡ 0 → Knows serving log st
@@ -85,7 +85,7 @@ module _ {S E K : Type 0} (entries : S → List E) (kind : S → K) (op : S) (se
   pub few_out : (log : List E) (serving : ℕ) (vs : List V) → ((i : ℕ) (v : V) → get_elem? vs i ≡ some v → Known log serving v)
       → weight_of_all vs ≡ seats → seats ≤ MAX_SEATS → out vs ≤ MAX_SEATS
   few_out log serving vs each all few =
-      let t = total_le (λ (v : V). is_out v.stage) (λ (v : V). v.weight) vs (λ i v e. out_below log serving v (each i v e)) in omega arith
+      let t = sum_over_le (λ (v : V). is_out v.stage) (λ (v : V). v.weight) vs (λ i v e. out_below log serving v (each i v e)) in omega arith
 
   pub at_home : (log : List E) (of : K) (h : Maybe (Option S)) → is_home h ≡ 1 → HoldsState entries kind log of h
       → (x : S) × (h ≡ some (Some x)) × (entries x ≡ log) × (kind x ≡ of)

@@ -12,22 +12,22 @@ use Rattle.atomic_table.proofs.Lists.{set_else, at_snoc}
 use Rattle.turn_lock.specs.declared.rule.View.{View}
 use Rattle.turn_lock.specs.declared.rule.Stage.TheVariants.{Outside}
 use Rattle.turn_lock.specs.declared.limits.TheConstants.{MAX_SEATS}
-use Rattle.turn_lock.specs.Rule.{total, occurrences, one_between, AreAllPlaces, is_out, is_served, has_ticket, seat_outside, spent, IsSeated}
+use Rattle.turn_lock.specs.Rule.{sum_over, occurrences, one_between, AreAllPlaces, is_out, is_served, has_ticket, seat_outside, spent, IsSeated}
 use Rattle.turn_lock.specs.Rule.{ObeysRule}
 use Rattle.turn_lock.specs.Steps.{lighter, split_off, joined, with_front, met}
 use Rattle.turn_lock.proofs.Prefixes.{prefix_same, prefix_of_longer}
-use Rattle.turn_lock.proofs.RuleLemmas.{set_each, total_same, Known, seated, at_home, counts_same, read_keeps}
-use Rattle.turn_lock.proofs.Totals.{total_set, total_append, total_member, total_two, total_only, occurrences_append}
+use Rattle.turn_lock.proofs.RuleLemmas.{set_each, sum_over_same, Known, seated, at_home, counts_same, read_keeps}
+use Rattle.turn_lock.proofs.Totals.{sum_over_set, sum_over_append, sum_over_member, sum_over_two, sum_over_only, occurrences_append}
 
 module _ {V : Type 0} where
   -- the sum where the view v becomes w and a new seat has the view u
-  pub total_split : (f : V → ℕ) (vs : List V) (id : ℕ) (v w u : V) → get_elem? vs id ≡ some v → f v ≡ f w + f u → total f (set vs id w ++ u ∷ []) ≡ total f vs
-  total_split f vs id v w u at e = let a = total_append f (set vs id w) u in let t = total_set f vs id v w at in omega arith
+  pub sum_over_split : (f : V → ℕ) (vs : List V) (id : ℕ) (v w u : V) → get_elem? vs id ≡ some v → f v ≡ f w + f u → sum_over f (set vs id w ++ u ∷ []) ≡ sum_over f vs
+  sum_over_split f vs id v w u at e = let a = sum_over_append f (set vs id w) u in let t = sum_over_set f vs id v w at in omega arith
 
   -- the sum where the view v takes in the view w, which becomes u
-  pub total_join : (f : V → ℕ) (vs : List V) (id other : ℕ) (v w b u : V) → get_elem? vs id ≡ some v → get_elem? (set vs id b) other ≡ some w → f b ≡ f v + f w → f u ≡ 0
-      → total f (set (set vs id b) other u) ≡ total f vs
-  total_join f vs id other v w b u at there e z = let t = total_set f vs id v b at in let q = total_set f (set vs id b) other w u there in omega arith
+  pub sum_over_join : (f : V → ℕ) (vs : List V) (id other : ℕ) (v w b u : V) → get_elem? vs id ≡ some v → get_elem? (set vs id b) other ≡ some w → f b ≡ f v + f w → f u ≡ 0
+      → sum_over f (set (set vs id b) other u) ≡ sum_over f vs
+  sum_over_join f vs id other v w b u at there e z = let t = sum_over_set f vs id v b at in let q = sum_over_set f (set vs id b) other w u there in omega arith
 
 module _ {S E K : Type 0} (entries : S → List E) (kind : S → K) (op : S) (seats : ℕ) where
   abbrev Entry : Type 0
@@ -46,7 +46,7 @@ module _ {S E K : Type 0} (entries : S → List E) (kind : S → K) (op : S) (se
   splits id v k is heavy s r at =
       let w : Entry = lighter v in let u : Entry = split_off v in
       let mine = seated entries kind op seats r.log r.serving v k is (r.each_seat id v at) in
-      let split = λ (f : Entry → ℕ) (e : f v ≡ f w + f u). total_split f s.views id v w u at e in
+      let split = λ (f : Entry → ℕ) (e : f v ≡ f w + f u). sum_over_split f s.views id v w u at e in
       counts_same entries kind op seats s r (set s.views id w ++ u ∷ [])
       (λ n. split (λ d. has_ticket n d.stage) (omega arith))
       (split (λ d. is_out d.stage) (omega arith))
@@ -68,7 +68,7 @@ module _ {S E K : Type 0} (entries : S → List E) (kind : S → K) (op : S) (se
       let at' : get_elem? s.views other ≡ some w = sym (set_else s.views id other b apart) ∙ there in
       let mine = seated entries kind op seats r.log r.serving v k is (r.each_seat id v at) in
       let theirs = seated entries kind op seats r.log r.serving w l their (r.each_seat other w at') in
-      let join = λ (f : Entry → ℕ) (e : f b ≡ f v + f w) (z : f spent ≡ 0). total_join f s.views id other v w b spent at there e z in
+      let join = λ (f : Entry → ℕ) (e : f b ≡ f v + f w) (z : f spent ≡ 0). sum_over_join f s.views id other v w b spent at there e z in
       counts_same entries kind op seats s r (set vs other spent)
       (λ n. join (λ d. has_ticket n d.stage) (let z : has_ticket n w.stage ≡ 0 = ap (has_ticket n) outside in omega arith) refl)
       (join (λ d. is_out d.stage) (let z : is_out w.stage ≡ 0 = ap is_out outside in omega arith) refl)
@@ -85,7 +85,7 @@ module _ {S E K : Type 0} (entries : S → List E) (kind : S → K) (op : S) (se
       → Obeys (stepped s 0 (get_or s.words 0 0) id me.1 (with_front me.0 front) keeps)
   meets_at s r id me front at mine pre =
       let v : Entry = me.0 in let w : Entry = with_front v front in
-      let same = λ (f : Entry → ℕ) (e : f w ≡ f v). total_same f s.views id v w at e in
+      let same = λ (f : Entry → ℕ) (e : f w ≡ f v). sum_over_same f s.views id v w at e in
       read_keeps entries kind op seats s 0 (set s.views id w)
       (counts_same entries kind op seats s r (set s.views id w)
       (λ n. same (λ d. has_ticket n d.stage) refl)
@@ -101,7 +101,7 @@ module _ {S E K : Type 0} (entries : S → List E) (kind : S → K) (op : S) (se
   meets slots id me k is s r wide at small =
       let v : Entry = me.0 in
       let mine = seated entries kind op seats r.log r.serving v k is (r.each_seat id v at) in
-      let m = total_member (λ (d : Entry). d.weight) s.views id v at in let all = r.weights in let few = r.few in
+      let m = sum_over_member (λ (d : Entry). d.weight) s.views id v at in let all = r.weights in let few = r.few in
       let light : v.weight ≤ MAX_SEATS = omega arith in
       dite (dec_le (length v.front) (length v.other))
       (λ le. (
@@ -149,11 +149,11 @@ module _ {S E K : Type 0} (entries : S → List E) (kind : S → K) (op : S) (se
   alone : (s : Table) (r : Obeys s) (id : ℕ) (v : Entry) → get_elem? s.views id ≡ some v → v.weight ≡ seats → (j : ℕ) (d : Entry) → j ≢ id
       → get_elem? s.views j ≡ some d → d ≡ spent
   alone s r id v at whole j d n e = ⊎_elim (λ (p : d ≡ spent). p)
-      (λ (t : IsSeated r.log (kind op) r.serving d). let m = total_two (λ (u : Entry). u.weight) s.views j id d v n e at in let all = r.weights in
+      (λ (t : IsSeated r.log (kind op) r.serving d). let m = sum_over_two (λ (u : Entry). u.weight) s.views j id d v n e at in let all = r.weights in
       let one = t.weight in absurd (omega arith)) (r.each_seat j d e)
 
-  all_its : (s : Table) (r : Obeys s) (id : ℕ) (v : Entry) → get_elem? s.views id ≡ some v → v.weight ≡ seats → (f : Entry → ℕ) → f spent ≡ 0 → total f s.views ≡ f v
-  all_its s r id v at whole f none_spent = total_only f s.views id v at (λ j d n e. ap f (alone s r id v at whole j d n e) ∙ none_spent)
+  all_its : (s : Table) (r : Obeys s) (id : ℕ) (v : Entry) → get_elem? s.views id ≡ some v → v.weight ≡ seats → (f : Entry → ℕ) → f spent ≡ 0 → sum_over f s.views ≡ f v
+  all_its s r id v at whole f none_spent = sum_over_only f s.views id v at (λ j d n e. ap f (alone s r id v at whole j d n e) ∙ none_spent)
 
   -- what the last seat learns of the state
   abbrev pub Last : Entry → S → Type 0

@@ -18,9 +18,9 @@ use Rattle.turn_lock.specs.Rule.{occurrences, one_between, weight_of_all, is_out
 use Rattle.turn_lock.specs.Steps.{ticket_of, log_of, new_places, at_stage, with_list, back_outside, drawn, looked, marked, passed}
 use Rattle.turn_lock.specs.Steps.{is_inside, holding}
 use Rattle.turn_lock.proofs.Prefixes.{prefix_same, prefix_on, prefix_le}
-use Rattle.turn_lock.proofs.RuleLemmas.{set_each, total_same, knows_unserved, served_has_ticket, inside_knows, Known, seated, few_out, at_home}
+use Rattle.turn_lock.proofs.RuleLemmas.{set_each, sum_over_same, knows_unserved, served_has_ticket, inside_knows, Known, seated, few_out, at_home}
 use Rattle.turn_lock.proofs.RuleLemmas.{read_keeps}
-use Rattle.turn_lock.proofs.Totals.{total_set, total_member, total_two, total_le_at, occurrences_append, occurrences_range}
+use Rattle.turn_lock.proofs.Totals.{sum_over_set, sum_over_member, sum_over_two, sum_over_le_at, occurrences_append, occurrences_range}
 use Rattle.turn_lock.proofs.Totals.{one_between_beside, one_between_le, one_between_inside}
 
 module _ {S E K : Type 0} (entries : S → List E) (kind : S → K) (op : S) (seats : ℕ) where
@@ -51,10 +51,10 @@ module _ {S E K : Type 0} (entries : S → List E) (kind : S → K) (op : S) (se
       let mine = seated entries kind op seats r.log r.serving v k is (r.each_seat id v at) in
       let each = set_each (Rightly r.log r.serving) s.views id w
       (inr record { stage = tt; weight = mine.weight; front = mine.front; other = mine.other; kind = mine.kind }) (λ j d _ e. r.each_seat j d e) in
-      let all : weight_of_all (set s.views id w) ≡ seats = total_same (λ (d : V). d.weight) s.views id v w at refl ∙ r.weights in
+      let all : weight_of_all (set s.views id w) ≡ seats = sum_over_same (λ (d : V). d.weight) s.views id v w at refl ∙ r.weights in
       let was_out : is_out v.stage ≡ 0 = ap is_out outside in
       let was_served : is_served v.stage ≡ 0 = ap is_served outside in
-      let o = total_set (λ (d : V). is_out d.stage) s.views id v w at in
+      let o = sum_over_set (λ (d : V). is_out d.stage) s.views id v w at in
       let count = r.as_many in (
         w,
         keeps,
@@ -67,13 +67,13 @@ module _ {S E K : Type 0} (entries : S → List E) (kind : S → K) (op : S) (se
           words = ap (λ (l : List ℕ). set l 1 ((get_or l 1 0 + 1) % 2 ^ 64)) r.words ∙ ap (λ (n : ℕ). length r.log ∷ n ∷ r.serving % 2 ^ 64 ∷ []) (next t);
           homes = r.homes;
           tickets = λ n. let had : has_ticket n v.stage ≡ 0 = ap (has_ticket n) outside in
-              let c = total_set (λ (d : V). has_ticket n d.stage) s.views id v w at in let b = r.tickets n in grind (arith, nat_tests);
+              let c = sum_over_set (λ (d : V). has_ticket n d.stage) s.views id v w at in let b = r.tickets n in grind (arith, nat_tests);
           as_many = omega arith;
           at_most = few_out entries kind op seats r.log r.serving (set s.views id w) each all r.few;
-          one_served = ap (λ n. n + is_home r.home) (total_same (λ (d : V). is_served d.stage) s.views id v w at (sym was_served)) ∙ r.one_served;
+          one_served = ap (λ n. n + is_home r.home) (sum_over_same (λ (d : V). is_served d.stage) s.views id v w at (sym was_served)) ∙ r.one_served;
           slot = r.slot;
           began = r.began;
-          owned = λ n. total_same (λ (d : V). occurrences n d.own) s.views id v w at refl ∙ r.owned n;
+          owned = λ n. sum_over_same (λ (d : V). occurrences n d.own) s.views id v w at refl ∙ r.owned n;
           weights = all;
           few = r.few;
           each_seat = each;
@@ -87,13 +87,13 @@ module _ {S E K : Type 0} (entries : S → List E) (kind : S → K) (op : S) (se
 
   -- the seat that finds its own number has the ticket that is served
   own_number : (s : St) (r : Rule s) (id : ℕ) (v : V) (t : ℕ) → get_elem? s.views id ≡ some v → has_ticket t v.stage ≡ 1 → r.serving % 2 ^ 64 ≡ t % 2 ^ 64 → r.serving ≡ t
-  own_number s r id v t at has e = let m = total_member (λ (d : V). has_ticket t d.stage) s.views id v at in let b = r.tickets t in
+  own_number s r id v t at has e = let m = sum_over_member (λ (d : V). has_ticket t d.stage) s.views id v at in let b = r.tickets t in
       let i = one_between_inside r.serving r.ticket t (omega arith) in let lo = i.0 in let hi = i.1 in let c = r.as_many in let a = r.at_most in
       one_turn r.serving t (2 ^ 64) lo (omega arith) e
 
   -- then no seat is served yet
   is_free : (s : St) (r : Rule s) (id : ℕ) (v : V) → get_elem? s.views id ≡ some v → has_ticket r.serving v.stage ≡ 1 → is_served v.stage ≡ 0 → is_home r.home ≡ 1
-  is_free s r id v at has not = let m = total_le_at (λ (d : V). is_served d.stage) (λ (d : V). has_ticket r.serving d.stage) s.views id v at (knows_all s r) in
+  is_free s r id v at has not = let m = sum_over_le_at (λ (d : V). is_served d.stage) (λ (d : V). has_ticket r.serving d.stage) s.views id v at (knows_all s r) in
       let b = r.tickets r.serving in let c = one_between_le r.serving r.ticket r.serving in let o = r.one_served in omega arith
 
   unchanged : (s : St) (r : Rule s) (i id : ℕ) (v : V) (c : List (ℕ × Option S)) → get_elem? s.views id ≡ some v
@@ -113,7 +113,7 @@ module _ {S E K : Type 0} (entries : S → List E) (kind : S → K) (op : S) (se
       let was_out : is_out v.stage ≡ 1 = ap is_out waits in
       let here : is_home r.home ≡ 1 = ap is_home home in
       let o = r.one_served in
-      let p = total_set (λ (d : V). is_served d.stage) s.views id v w at in
+      let p = sum_over_set (λ (d : V). is_served d.stage) s.views id v w at in
       record {
         log = r.log;
         ticket = r.ticket;
@@ -121,14 +121,14 @@ module _ {S E K : Type 0} (entries : S → List E) (kind : S → K) (op : S) (se
         home = none;
         words = set-get_or s.words 2 0 ∙ r.words;
         homes = ap (λ (l : List (Maybe (Option S))). set l 0 none) r.homes;
-        tickets = λ n. total_same (λ (d : V). has_ticket n d.stage) s.views id v w at (ap (λ (m : ℕ). cond (m == n) 1 0) own ∙ sym (ap (has_ticket n) waits)) ∙ r.tickets n;
-        as_many = ap (λ (n : ℕ). r.serving + n) (total_same (λ (d : V). is_out d.stage) s.views id v w at (sym was_out)) ∙ r.as_many;
-        at_most = subst (λ (n : ℕ). n ≤ MAX_SEATS) (sym (total_same (λ (d : V). is_out d.stage) s.views id v w at (sym was_out))) r.at_most;
+        tickets = λ n. sum_over_same (λ (d : V). has_ticket n d.stage) s.views id v w at (ap (λ (m : ℕ). cond (m == n) 1 0) own ∙ sym (ap (has_ticket n) waits)) ∙ r.tickets n;
+        as_many = ap (λ (n : ℕ). r.serving + n) (sum_over_same (λ (d : V). is_out d.stage) s.views id v w at (sym was_out)) ∙ r.as_many;
+        at_most = subst (λ (n : ℕ). n ≤ MAX_SEATS) (sym (sum_over_same (λ (d : V). is_out d.stage) s.views id v w at (sym was_out))) r.at_most;
         one_served = omega arith;
         slot = tt;
         began = r.began;
-        owned = λ n. total_same (λ (d : V). occurrences n d.own) s.views id v w at refl ∙ r.owned n;
-        weights = total_same (λ (d : V). d.weight) s.views id v w at refl ∙ r.weights;
+        owned = λ n. sum_over_same (λ (d : V). occurrences n d.own) s.views id v w at refl ∙ r.owned n;
+        weights = sum_over_same (λ (d : V). d.weight) s.views id v w at refl ∙ r.weights;
         few = r.few;
         each_seat = set_each (Rightly r.log r.serving) s.views id w
             (inr record { stage = (own ∙ sym e, log); weight = mine.weight; front = mine.front; other = mine.other; kind = mine.kind }) (λ j d _ q. r.each_seat j d q);
@@ -162,11 +162,11 @@ module _ {S E K : Type 0} (entries : S → List E) (kind : S → K) (op : S) (se
 
   others_unserved : (s : St) (r : Rule s) (id : ℕ) (v : V) → get_elem? s.views id ≡ some v → is_served v.stage ≡ 1 → (j : ℕ) (d : V) → j ≢ id
       → get_elem? s.views j ≡ some d → is_served d.stage ≡ 0
-  others_unserved s r id v at one j d n e = let t = total_two (λ (u : V). is_served u.stage) s.views j id d v n e at in let o = r.one_served in omega arith
+  others_unserved s r id v at one j d n e = let t = sum_over_two (λ (u : V). is_served u.stage) s.views j id d v n e at in let o = r.one_served in omega arith
 
   -- while a seat is served the slot is away
   is_away : (s : St) (r : Rule s) (id : ℕ) (v : V) → get_elem? s.views id ≡ some v → is_served v.stage ≡ 1 → is_home r.home ≡ 0
-  is_away s r id v at one = let t = total_member (λ (u : V). is_served u.stage) s.views id v at in let o = r.one_served in omega arith
+  is_away s r id v at one = let t = sum_over_member (λ (u : V). is_served u.stage) s.views id v at in let o = r.one_served in omega arith
 
   holds_away : (log : List E) (of : K) (h : Maybe (Option S)) → is_home h ≡ 0 → HoldsState entries kind log of h
   holds_away log of none e = tt
@@ -203,18 +203,18 @@ module _ {S E K : Type 0} (entries : S → List E) (kind : S → K) (op : S) (se
           home = r.home;
           words = ap (λ (l : List ℕ). set l 0 ((get_or l 0 0 + fresh) % 2 ^ 64)) r.words ∙ ap (λ (n : ℕ). n ∷ r.ticket % 2 ^ 64 ∷ r.serving % 2 ^ 64 ∷ []) count;
           homes = r.homes;
-          tickets = λ n. total_same (λ (d : V). has_ticket n d.stage) s.views id v w at (sym (knows.4 n)) ∙ r.tickets n;
-          as_many = ap (λ (n : ℕ). r.serving + n) (total_same (λ (d : V). is_out d.stage) s.views id v w at (sym knows.3)) ∙ r.as_many;
-          at_most = subst (λ (n : ℕ). n ≤ MAX_SEATS) (sym (total_same (λ (d : V). is_out d.stage) s.views id v w at (sym knows.3))) r.at_most;
-          one_served = ap (λ n. n + is_home r.home) (total_same (λ (d : V). is_served d.stage) s.views id v w at (sym one)) ∙ r.one_served;
+          tickets = λ n. sum_over_same (λ (d : V). has_ticket n d.stage) s.views id v w at (sym (knows.4 n)) ∙ r.tickets n;
+          as_many = ap (λ (n : ℕ). r.serving + n) (sum_over_same (λ (d : V). is_out d.stage) s.views id v w at (sym knows.3)) ∙ r.as_many;
+          at_most = subst (λ (n : ℕ). n ≤ MAX_SEATS) (sym (sum_over_same (λ (d : V). is_out d.stage) s.views id v w at (sym knows.3))) r.at_most;
+          one_served = ap (λ n. n + is_home r.home) (sum_over_same (λ (d : V). is_served d.stage) s.views id v w at (sym one)) ∙ r.one_served;
           slot = holds_away list (kind op) r.home (is_away s r id v at one);
           began = prefix_on (entries op) r.log list began longer';
-          owned = λ n. let t = total_set (λ (d : V). occurrences n d.own) s.views id v w at in let b = r.owned n in
+          owned = λ n. let t = sum_over_set (λ (d : V). occurrences n d.own) s.views id v w at in let b = r.owned n in
               let a = occurrences_append n v.own (new_places before list) in let c = occurrences_range n (length before) (length list - length before) in
               let end : length before + (length list - length before) ≡ length list = omega arith in
               let c' : occurrences n (new_places before list) ≡ one_between (length r.log) (length list) n = c ∙ (λ i. one_between (size i) (end i) n) in
               let o = one_between_beside (length (entries op)) (length r.log) (length list) n start (omega arith) in omega arith;
-          weights = total_same (λ (d : V). d.weight) s.views id v w at refl ∙ r.weights;
+          weights = sum_over_same (λ (d : V). d.weight) s.views id v w at refl ∙ r.weights;
           few = r.few;
           each_seat = set_each (Rightly list r.serving) s.views id w
               (inr record {
@@ -237,8 +237,8 @@ module _ {S E K : Type 0} (entries : S → List E) (kind : S → K) (op : S) (se
       let mine = seated entries kind op seats r.log r.serving v k is (r.each_seat id v at) in
       let knows = inside_knows r.serving r.log v.stage inside mine.stage in
       let log : log_of v.stage ≡ r.log = knows.1 in let one : is_served v.stage ≡ 1 = knows.2 in let was_out : is_out v.stage ≡ 1 = knows.3 in
-      let o = total_set (λ (d : V). is_out d.stage) s.views id v w at in let o' = total_member (λ (d : V). is_out d.stage) s.views id v at in
-      let p = total_set (λ (d : V). is_served d.stage) s.views id v w at in
+      let o = sum_over_set (λ (d : V). is_out d.stage) s.views id v w at in let o' = sum_over_member (λ (d : V). is_out d.stage) s.views id v at in
+      let p = sum_over_set (λ (d : V). is_served d.stage) s.views id v w at in
       let away = is_away s r id v at one in let count = r.as_many in let most = r.at_most in let single = r.one_served in (
         w,
         gives,
@@ -250,7 +250,7 @@ module _ {S E K : Type 0} (entries : S → List E) (kind : S → K) (op : S) (se
           home = some (Some x);
           words = ap (λ (l : List ℕ). set l 2 ((get_or l 2 0 + 1) % 2 ^ 64)) r.words ∙ ap (λ (n : ℕ). length r.log ∷ r.ticket % 2 ^ 64 ∷ n ∷ []) (next r.serving);
           homes = (λ i. put_back (r.homes i) (held i));
-          tickets = λ n. let t = total_set (λ (d : V). has_ticket n d.stage) s.views id v w at in
+          tickets = λ n. let t = sum_over_set (λ (d : V). has_ticket n d.stage) s.views id v w at in
               let h : has_ticket n v.stage ≡ cond (r.serving == n) 1 0 = knows.4 n ∙ ap (λ (m : ℕ). cond (m == n) 1 0) knows.0 in
               let b = r.tickets n in grind (arith, nat_tests);
           as_many = omega arith;
@@ -258,8 +258,8 @@ module _ {S E K : Type 0} (entries : S → List E) (kind : S → K) (op : S) (se
           one_served = omega arith;
           slot = (has ∙ log, of);
           began = r.began;
-          owned = λ n. total_same (λ (d : V). occurrences n d.own) s.views id v w at refl ∙ r.owned n;
-          weights = total_same (λ (d : V). d.weight) s.views id v w at refl ∙ r.weights;
+          owned = λ n. sum_over_same (λ (d : V). occurrences n d.own) s.views id v w at refl ∙ r.owned n;
+          weights = sum_over_same (λ (d : V). d.weight) s.views id v w at refl ∙ r.weights;
           few = r.few;
           each_seat = set_each (Rightly r.log (r.serving + 1)) s.views id w
               (inr record { stage = tt; weight = mine.weight; front = prefix_same (log_of v.stage) r.log log; other = mine.other; kind = mine.kind })

@@ -1,6 +1,6 @@
 -- The rule of the table of a turn.
 -- Word 0 is the count of entries, word 1 the next ticket and word 2 the ticket that is served. A number of a word is that of its ticket modulo 2^64.
-use Rattle.std.specs.Prelude.{◌≡◌, ◌⊎◌, ℕ, ◌+◌, ◌%◌, ◌^◌, ◌≤◌, ◌==◌, ◌&&◌, List, [], ◌∷◌, length, Option, Some, None, cond, leb, ltb}
+use Rattle.std.specs.Prelude.{◌≡◌, ◌⊎◌, ℕ, ◌+◌, ◌%◌, ◌^◌, ◌≤◌, ◌==◌, ◌&&◌, List, [], ◌∷◌, length, count_by, Option, Some, None, cond, leb, ltb}
 use mathlib.Core.Option.{Option as Maybe, none, some}
 use mathlib.Core.List.{IsPrefix}
 use lib.ListN.{get_elem?}
@@ -15,13 +15,13 @@ abbrev pub one_between : ℕ → ℕ → ℕ → ℕ
 one_between from to k = cond (leb from k && ltb k to) 1 0
 
 -- f of each element, added up
-abbrev pub total : {X : Type 0} → (X → ℕ) → List X → ℕ
-total f [] = 0
-total f (x ∷ xs) = f x + total f xs
+abbrev pub sum_over : {X : Type 0} → (X → ℕ) → List X → ℕ
+sum_over f [] = 0
+sum_over f (x ∷ xs) = f x + sum_over f xs
 
--- how often the number stands in the list
+-- how often the place stands in the list
 abbrev pub occurrences : ℕ → List ℕ → ℕ
-occurrences k ks = total (λ n. cond (n == k) 1 0) ks
+occurrences place places = count_by (λ other. other == place) places
 
 -- each number from the first up to the second stands once in the list, and no other
 abbrev pub AreAllPlaces : ℕ → ℕ → List ℕ → Type 0
@@ -71,23 +71,23 @@ module _ {E K : Type 0} where
 
   -- how many seats are out
   abbrev pub out : List (View E K) → ℕ
-  out views = total (λ v. is_out v.stage) views
+  out views = sum_over (λ v. is_out v.stage) views
 
   -- how many are out with this ticket
   abbrev pub with_ticket : ℕ → List (View E K) → ℕ
-  with_ticket k views = total (λ v. has_ticket k v.stage) views
+  with_ticket k views = sum_over (λ v. has_ticket k v.stage) views
 
   -- how many are served
   abbrev pub served : List (View E K) → ℕ
-  served views = total (λ v. is_served v.stage) views
+  served views = sum_over (λ v. is_served v.stage) views
 
   -- how often the place is an own place, over all seats
   abbrev pub owners : ℕ → List (View E K) → ℕ
-  owners k views = total (λ v. occurrences k v.own) views
+  owners k views = sum_over (λ v. occurrences k v.own) views
 
   -- the weights of all seats, added up
   abbrev pub weight_of_all : List (View E K) → ℕ
-  weight_of_all views = total (λ v. v.weight) views
+  weight_of_all views = sum_over (λ v. v.weight) views
 
 -- 1 where the slot is at home
 abbrev pub is_home : {X : Type 0} → Maybe X → ℕ
