@@ -215,19 +215,36 @@ fn line_is_too_long_from_byte_4097_on(rt: HostRuntime) -> Result<(), Fail> {
     expect_check(&rt, rt.alloc(), &long, 7, b"invalid 1 form\n")
 }
 
+/// Checks a text whose source fails at one call, and compares what is written of a refused file.
+fn expect_refusal(
+    rt: &impl Abort,
+    alloc: Global,
+    text: &[u8],
+    piece: usize,
+    failing_call: u32,
+    want: &[u8],
+) -> Result<(), Fail> {
+    let words = [format!(in alloc; "check")?];
+    let mut source = MemSource::new(alloc, text, piece.max(1), &[failing_call])?;
+    let mut sink = MemSink::new(alloc, 64, &[])?;
+    assert_eq!(rt; plain_command(alloc, &words, &mut source, &mut sink), 1);
+    assert!(rt; sink.bytes() == want);
+    Ok(())
+}
+
 #[test]
 fn long_line_is_refused_without_another_read(rt: HostRuntime) -> Result<(), Fail> {
     let long = vec![in rt.alloc(); b'a'; 5_000]?;
-    let words = [format!(in rt.alloc(); "check")?];
     // The call fails that would be the next one after byte 4,097.
     for (piece, call) in [(4_097, 2), (5_000, 2), (7, 587), (1, 4_098)] {
-        let mut source = MemSource::new(rt.alloc(), long.as_slice(), piece, &[call])?;
-        let mut sink = MemSink::new(rt.alloc(), 64, &[])?;
-        assert_eq!(rt;
-            plain_command(rt.alloc(), &words, &mut source, &mut sink),
-            1
-        );
-        assert!(rt; sink.bytes() == b"invalid 1 form\n".as_slice());
+        expect_refusal(
+            &rt,
+            rt.alloc(),
+            long.as_slice(),
+            piece,
+            call,
+            b"invalid 1 form\n",
+        )?;
     }
     Ok(())
 }
