@@ -28,34 +28,8 @@ use Rattle.decider.specs.Trying.{against, OpensRows}
 use Rattle.decider.proofs.AnswerRows.{ranks_scaled, meets_first, meets_later, meets_ranks, rows_meet_all, all_meets_rows, standing_meets, meets_standing}
 use Rattle.decider.proofs.CitedGains.{rows_length}
 use Rattle.decider.proofs.Verdicts.{IsCombined, tried_is_last, few_weights, ranked_of, combined_proves}
+use Rattle.decider.proofs.Decided.{proved_decision, proved_exact, opened_decision, opened_exact}
 use Rattle.decider.proofs.Mirror.{mirrored}
-
--- ---- how a vector ranks the pair
-
-pub leads_left : (levels : List ℕ) (v : List ℤ) (pair : Pair) (lead : ℤ) → lead ≡ dot v (gain levels pair Left) → pos 0 <ℤ lead → Ranks levels v pair Left
-leads_left levels v pair lead e h = omega (arith, ints, e, h, dot-minus v (has levels pair.left) (has levels pair.right))
-
-pub leads_right : (levels : List ℕ) (v : List ℤ) (pair : Pair) (lead : ℤ) → lead ≡ dot v (gain levels pair Left) → lead <ℤ pos 0 → Ranks levels v pair Right
-leads_right levels v pair lead e h = omega (arith, ints, e, h, dot-minus v (has levels pair.left) (has levels pair.right))
-
-pub leads_none : (levels : List ℕ) (v : List ℤ) (pair : Pair) (lead : ℤ) → lead ≡ dot v (gain levels pair Left) → lead ≤ℤ pos 0 → pos 0 ≤ℤ lead → Ranks levels v pair Equal
-leads_none levels v pair lead e h k = omega (arith, ints, e, h, k, dot-minus v (has levels pair.left) (has levels pair.right))
-
-ranks_once : (levels : List ℕ) (v : List ℤ) (pair : Pair) (one other : Side) → Ranks levels v pair one → Ranks levels v pair other → one ≡ other
-ranks_once levels v pair Left Left h k = refl
-ranks_once levels v pair Left Right h k = absurd (omega (arith, ints, h, k))
-ranks_once levels v pair Left Equal h k = absurd (omega (arith, ints, h, k))
-ranks_once levels v pair Right Left h k = absurd (omega (arith, ints, h, k))
-ranks_once levels v pair Right Right h k = refl
-ranks_once levels v pair Right Equal h k = absurd (omega (arith, ints, h, k))
-ranks_once levels v pair Equal Left h k = absurd (omega (arith, ints, h, k))
-ranks_once levels v pair Equal Right h k = absurd (omega (arith, ints, h, k))
-ranks_once levels v pair Equal Equal h k = refl
-
-opened : (levels : List ℕ) (answers : List Answer) (pair : Pair) (plus minus : List ℤ) → Opens levels answers pair plus minus → IsOpen levels answers pair
-opened levels answers pair plus minus opens Left ranked = omega (arith, ints, ranked minus opens.minus_meets, opens.less)
-opened levels answers pair plus minus opens Right ranked = omega (arith, ints, ranked plus opens.plus_meets, opens.more)
-opened levels answers pair plus minus opens Equal ranked = omega (arith, ints, ranked plus opens.plus_meets, opens.more)
 
 -- ---- vectors without their common factor
 
@@ -196,16 +170,12 @@ refuted_proves levels answers d point pair side tried clash combination r =
 pub implied_decision : (levels : List ℕ) (answers : List Answer) (d : DictionaryView) (point : List ℤ) (pair : Pair) (side tried : Side) (clash : Clash) (combination : Combination) → IsRefuted levels answers d point pair side tried clash combination
     → IsCoprime (numbers_of combination) → unsigned_abs combination.scale < 2 ^ 96 → IsDecision levels answers pair (Implied side combination)
 implied_decision levels answers d point pair side tried clash combination r reduced small =
-    let proof = refuted_proves levels answers d point pair side tried clash combination r in (proof, ranked_of levels answers combination pair side proof, reduced, small)
+    proved_decision levels answers pair side combination (refuted_proves levels answers d point pair side tried clash combination r) reduced small
 
 pub implied_exact : (levels : List ℕ) (answers : List Answer) (d : DictionaryView) (point : List ℤ) (pair : Pair) (side tried : Side) (clash : Clash) (combination : Combination) → IsRefuted levels answers d point pair side tried clash combination
     → IsExact levels answers pair (Implied side combination)
 implied_exact levels answers d point pair side tried clash combination r =
-    let ranked = ranked_of levels answers combination pair side (refuted_proves levels answers d point pair side tried clash combination r) in
-    record {
-      open_pair = (λ none. absurd none, λ is_open. is_open side ranked);
-      ranked_pair = λ other. (λ e. subst (IsRanked levels answers pair) e ranked, λ also. ranks_once levels point pair side other (ranked point r.meets) (also point r.meets));
-    }
+    proved_exact levels answers pair side combination point (refuted_proves levels answers d point pair side tried clash combination r) r.meets
 
 pub implied_few : (levels : List ℕ) (answers : List Answer) (d : DictionaryView) (point : List ℤ) (pair : Pair) (side tried : Side) (clash : Clash) (combination : Combination) → IsRefuted levels answers d point pair side tried clash combination
     → count_by is_weight (weights_of combination) ≤ 24
@@ -223,16 +193,12 @@ opens_of levels answers d pair plus minus stands opens = record {
 pub undecided_decision : (levels : List ℕ) (answers : List Answer) (d : DictionaryView) (pair : Pair) (plus minus : List ℤ) → StandsFor levels answers d → OpensRows levels d.columns d.loaded pair plus minus
     → IsDecision levels answers pair (Undecided plus minus)
 undecided_decision levels answers d pair plus minus stands opens =
-    let is = opens_of levels answers d pair plus minus stands opens in (is, opened levels answers pair plus minus is, opens.plus_reduced, opens.minus_reduced)
+    opened_decision levels answers pair plus minus (opens_of levels answers d pair plus minus stands opens) opens.plus_reduced opens.minus_reduced
 
 pub undecided_exact : (levels : List ℕ) (answers : List Answer) (d : DictionaryView) (pair : Pair) (plus minus : List ℤ) → StandsFor levels answers d → OpensRows levels d.columns d.loaded pair plus minus
     → IsExact levels answers pair (Undecided plus minus)
 undecided_exact levels answers d pair plus minus stands opens =
-    let is_open : IsOpen levels answers pair = opened levels answers pair plus minus (opens_of levels answers d pair plus minus stands opens) in
-    record {
-      open_pair = (λ none. is_open, λ h. tt);
-      ranked_pair = λ side. (λ none. absurd none, λ ranked. is_open side ranked);
-    }
+    opened_exact levels answers pair plus minus (opens_of levels answers d pair plus minus stands opens)
 
 -- where the point ranks the pair equal, there is a vector on the other side too
 pub standing_mirrored : (levels : List ℕ) (answers : List Answer) (d new : DictionaryView) (point other : List ℤ) (pair : Pair) (side tried : Side) → StandsFor levels answers d → new.columns ≡ d.columns → new.loaded ≡ d.loaded

@@ -10,4 +10,7 @@ pub mod ClashValues
 pub mod CitedGains
 pub mod Verdicts
 pub mod Mirror
+pub mod Decided
 pub mod Deciding
+pub mod Covering
+pub mod OneAnswers

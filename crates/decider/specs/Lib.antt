@@ -2,3 +2,4 @@ pub mod Standing
 pub mod Decisions
 pub mod Combining
 pub mod Trying
+pub mod OneAnswer

@@ -14,6 +14,7 @@ mod cite_list;
 mod combination;
 mod decision;
 mod decisions;
+mod one_answer;
 mod point;
 mod rows;
 mod standing;
@@ -22,5 +23,6 @@ mod trial;
 
 pub use decision::Decision;
 pub use decisions::decide;
+pub use one_answer::implied_by_one;
 pub use point::point_with;
 pub use tools::{Snapshot, Tools};

@@ -6,7 +6,7 @@ use Rattle.row_laws.specs.Rows.{dot}
 use Rattle.criteria_model.specs.Answers.{gain}
 use Rattle.criteria_model.proofs.GainLemmas.{length-gain}
 use Rattle.simplex.proofs.Sizes.{kept}
-use Rattle.decider.proofs.Deciding.{leads_left, leads_right, leads_none}
+use Rattle.decider.proofs.Decided.{leads_left, leads_right, leads_none}
 use Rattle.decider.proofs.decisions.ranking.Goals as goal
 
 pub dot-lead-requires : goal.dot-lead-requires

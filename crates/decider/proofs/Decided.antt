@@ -1,0 +1,79 @@
+-- What a proof, or two vectors that open the pair, make a decision.
+use Rattle.std.proofs.Common.{◌≡◌, ◌^◌, ◌<◌, ℕ, List, ◌∷◌, ℤ, pos, ◌<ℤ◌, ◌≤ℤ◌, unsigned_abs, refl, ap, subst, arith}
+use Rattle.std.specs.Int.{◌∣◌}
+use Rattle.std.proofs.lemmas.Int.{ints}
+use Rattle.std.proofs.Math.Nat.{eq-one_of_dvd-one}
+use Rattle.criteria_model.specs.declared.pairs.Pair.{Pair}
+use Rattle.criteria_model.specs.declared.pairs.Answer.{Answer}
+use Rattle.criteria_model.specs.declared.pairs.Side.{Side}
+use Rattle.criteria_model.specs.declared.pairs.Side.TheVariants.{Left, Right, Equal}
+use Rattle.criteria_model.specs.Rows.{dot}
+use Rattle.criteria_model.specs.Worth.{has}
+use Rattle.criteria_model.specs.Answers.{Ranks, MeetsAll, IsRanked, IsOpen, Opens, gain}
+use Rattle.criteria_model.proofs.RowLemmas.{dot-minus}
+use Rattle.farkas_check.specs.declared.combination.Combination.{Combination}
+use Rattle.farkas_check.specs.Proof.{Proves}
+use Rattle.simplex.specs.Rows.{HasNoDivisor}
+use Rattle.decider.specs.declared.decision.Decision.TheVariants.{Undecided, Implied}
+use Rattle.decider.specs.Decisions.{numbers_of, IsDecision, IsExact}
+use Rattle.decider.proofs.Verdicts.{ranked_of}
+
+-- ---- how a vector ranks the pair
+
+pub leads_left : (levels : List ℕ) (v : List ℤ) (pair : Pair) (lead : ℤ) → lead ≡ dot v (gain levels pair Left) → pos 0 <ℤ lead → Ranks levels v pair Left
+leads_left levels v pair lead e h = omega (arith, ints, e, h, dot-minus v (has levels pair.left) (has levels pair.right))
+
+pub leads_right : (levels : List ℕ) (v : List ℤ) (pair : Pair) (lead : ℤ) → lead ≡ dot v (gain levels pair Left) → lead <ℤ pos 0 → Ranks levels v pair Right
+leads_right levels v pair lead e h = omega (arith, ints, e, h, dot-minus v (has levels pair.left) (has levels pair.right))
+
+pub leads_none : (levels : List ℕ) (v : List ℤ) (pair : Pair) (lead : ℤ) → lead ≡ dot v (gain levels pair Left) → lead ≤ℤ pos 0 → pos 0 ≤ℤ lead → Ranks levels v pair Equal
+leads_none levels v pair lead e h k = omega (arith, ints, e, h, k, dot-minus v (has levels pair.left) (has levels pair.right))
+
+ranks_once : (levels : List ℕ) (v : List ℤ) (pair : Pair) (one other : Side) → Ranks levels v pair one → Ranks levels v pair other → one ≡ other
+ranks_once levels v pair Left Left h k = refl
+ranks_once levels v pair Left Right h k = absurd (omega (arith, ints, h, k))
+ranks_once levels v pair Left Equal h k = absurd (omega (arith, ints, h, k))
+ranks_once levels v pair Right Left h k = absurd (omega (arith, ints, h, k))
+ranks_once levels v pair Right Right h k = refl
+ranks_once levels v pair Right Equal h k = absurd (omega (arith, ints, h, k))
+ranks_once levels v pair Equal Left h k = absurd (omega (arith, ints, h, k))
+ranks_once levels v pair Equal Right h k = absurd (omega (arith, ints, h, k))
+ranks_once levels v pair Equal Equal h k = refl
+
+opened : (levels : List ℕ) (answers : List Answer) (pair : Pair) (plus minus : List ℤ) → Opens levels answers pair plus minus → IsOpen levels answers pair
+opened levels answers pair plus minus opens Left ranked = omega (arith, ints, ranked minus opens.minus_meets, opens.less)
+opened levels answers pair plus minus opens Right ranked = omega (arith, ints, ranked plus opens.plus_meets, opens.more)
+opened levels answers pair plus minus opens Equal ranked = omega (arith, ints, ranked plus opens.plus_meets, opens.more)
+
+-- ---- a proof
+
+pub proved_decision : (levels : List ℕ) (answers : List Answer) (pair : Pair) (side : Side) (combination : Combination) → Proves levels answers combination pair side
+    → HasNoDivisor (numbers_of combination) → unsigned_abs combination.scale < 2 ^ 96 → IsDecision levels answers pair (Implied side combination)
+proved_decision levels answers pair side combination proof reduced small = (proof, ranked_of levels answers combination pair side proof, reduced, small)
+
+pub proved_exact : (levels : List ℕ) (answers : List Answer) (pair : Pair) (side : Side) (combination : Combination) (point : List ℤ) → Proves levels answers combination pair side
+    → MeetsAll levels answers point → IsExact levels answers pair (Implied side combination)
+proved_exact levels answers pair side combination point proof meets =
+    let ranked = ranked_of levels answers combination pair side proof in
+    record {
+      open_pair = (λ none. absurd none, λ is_open. is_open side ranked);
+      ranked_pair = λ other. (λ e. subst (IsRanked levels answers pair) e ranked, λ also. ranks_once levels point pair side other (ranked point meets) (also point meets));
+    }
+
+-- nothing above 1 divides a scale of 1
+pub unit_scale_reduced : (combination : Combination) → combination.scale ≡ pos 1 → HasNoDivisor (numbers_of combination)
+unit_scale_reduced combination one d divides = eq-one_of_dvd-one (subst (λ (n : ℤ). d ∣ unsigned_abs n) one (divides 0 (pos 0) (omega arith)))
+
+-- ---- two vectors
+
+pub opened_decision : (levels : List ℕ) (answers : List Answer) (pair : Pair) (plus minus : List ℤ) → Opens levels answers pair plus minus → HasNoDivisor plus → HasNoDivisor minus
+    → IsDecision levels answers pair (Undecided plus minus)
+opened_decision levels answers pair plus minus is plus_reduced minus_reduced = (is, opened levels answers pair plus minus is, plus_reduced, minus_reduced)
+
+pub opened_exact : (levels : List ℕ) (answers : List Answer) (pair : Pair) (plus minus : List ℤ) → Opens levels answers pair plus minus → IsExact levels answers pair (Undecided plus minus)
+opened_exact levels answers pair plus minus is =
+    let is_open : IsOpen levels answers pair = opened levels answers pair plus minus is in
+    record {
+      open_pair = (λ none. is_open, λ h. tt);
+      ranked_pair = λ side. (λ none. absurd none, λ ranked. is_open side ranked);
+    }
