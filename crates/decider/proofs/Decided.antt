@@ -13,7 +13,7 @@ use Rattle.criteria_model.specs.Answers.{Ranks, MeetsAll, IsRanked, IsOpen, Open
 use Rattle.criteria_model.proofs.RowLemmas.{dot-minus}
 use Rattle.farkas_check.specs.declared.combination.Combination.{Combination}
 use Rattle.farkas_check.specs.Proof.{Proves}
-use Rattle.simplex.specs.Rows.{HasNoDivisor}
+use Rattle.simplex.specs.Rows.{IsCoprime}
 use Rattle.decider.specs.declared.decision.Decision.TheVariants.{Undecided, Implied}
 use Rattle.decider.specs.Decisions.{numbers_of, IsDecision, IsExact}
 use Rattle.decider.proofs.Verdicts.{ranked_of}
@@ -48,7 +48,7 @@ opened levels answers pair plus minus opens Equal ranked = omega (arith, ints, r
 -- ---- a proof
 
 pub proved_decision : (levels : List ℕ) (answers : List Answer) (pair : Pair) (side : Side) (combination : Combination) → Proves levels answers combination pair side
-    → HasNoDivisor (numbers_of combination) → unsigned_abs combination.scale < 2 ^ 96 → IsDecision levels answers pair (Implied side combination)
+    → IsCoprime (numbers_of combination) → unsigned_abs combination.scale < 2 ^ 96 → IsDecision levels answers pair (Implied side combination)
 proved_decision levels answers pair side combination proof reduced small = (proof, ranked_of levels answers combination pair side proof, reduced, small)
 
 pub proved_exact : (levels : List ℕ) (answers : List Answer) (pair : Pair) (side : Side) (combination : Combination) (point : List ℤ) → Proves levels answers combination pair side
@@ -61,12 +61,12 @@ proved_exact levels answers pair side combination point proof meets =
     }
 
 -- nothing above 1 divides a scale of 1
-pub unit_scale_reduced : (combination : Combination) → combination.scale ≡ pos 1 → HasNoDivisor (numbers_of combination)
+pub unit_scale_reduced : (combination : Combination) → combination.scale ≡ pos 1 → IsCoprime (numbers_of combination)
 unit_scale_reduced combination one d divides = eq-one_of_dvd-one (subst (λ (n : ℤ). d ∣ unsigned_abs n) one (divides 0 (pos 0) (omega arith)))
 
 -- ---- two vectors
 
-pub opened_decision : (levels : List ℕ) (answers : List Answer) (pair : Pair) (plus minus : List ℤ) → Opens levels answers pair plus minus → HasNoDivisor plus → HasNoDivisor minus
+pub opened_decision : (levels : List ℕ) (answers : List Answer) (pair : Pair) (plus minus : List ℤ) → Opens levels answers pair plus minus → IsCoprime plus → IsCoprime minus
     → IsDecision levels answers pair (Undecided plus minus)
 opened_decision levels answers pair plus minus is plus_reduced minus_reduced = (is, opened levels answers pair plus minus is, plus_reduced, minus_reduced)
 

@@ -14,3 +14,4 @@ pub mod Decided
 pub mod Deciding
 pub mod Covering
 pub mod OneAnswers
+pub mod WitnessLists

@@ -3,3 +3,5 @@ pub mod Decisions
 pub mod Combining
 pub mod Trying
 pub mod OneAnswer
+pub mod Witnesses
+pub mod Reserved

@@ -20,6 +20,7 @@ mod rows;
 mod standing;
 mod tools;
 mod trial;
+mod witnesses;
 
 pub use decision::Decision;
 pub use decisions::decide;
