@@ -11,11 +11,11 @@ use Rattle.criteria_model.specs.declared.pairs.Pair.{Pair}
 use Rattle.criteria_model.specs.declared.pairs.Answer.{Answer}
 use Rattle.criteria_model.specs.declared.pairs.Side.{Side}
 use Rattle.criteria_model.specs.declared.pairs.Side.TheVariants.{Left, Right, Equal}
-use Rattle.criteria_model.specs.Rows.{minus}
+use Rattle.row_laws.specs.Rows.{minus}
 use Rattle.criteria_model.specs.Worth.{increments, lies_above, has_on, has}
 use Rattle.criteria_model.specs.Pairs.{FitsAt, IsFit, turned}
 use Rattle.criteria_model.specs.Answers.{gain}
-use Rattle.criteria_model.proofs.RowLemmas.{length-minus, minus-append}
+use Rattle.row_laws.proofs.RowLemmas.{length-minus, minus-append}
 use Rattle.criteria_model.proofs.LevelLemmas.{length-has_on}
 use Rattle.decider.specs.OneAnswer.{CoversAt, Covers, CoversAnswer, Suffices}
 use Rattle.decider.proofs.AnswerRows.{All-first, All-later}

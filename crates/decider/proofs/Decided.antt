@@ -7,10 +7,10 @@ use Rattle.criteria_model.specs.declared.pairs.Pair.{Pair}
 use Rattle.criteria_model.specs.declared.pairs.Answer.{Answer}
 use Rattle.criteria_model.specs.declared.pairs.Side.{Side}
 use Rattle.criteria_model.specs.declared.pairs.Side.TheVariants.{Left, Right, Equal}
-use Rattle.criteria_model.specs.Rows.{dot}
+use Rattle.row_laws.specs.Rows.{dot}
 use Rattle.criteria_model.specs.Worth.{has}
 use Rattle.criteria_model.specs.Answers.{Ranks, MeetsAll, IsRanked, IsOpen, Opens, gain}
-use Rattle.criteria_model.proofs.RowLemmas.{dot-minus}
+use Rattle.row_laws.proofs.RowLemmas.{dot-minus}
 use Rattle.farkas_check.specs.declared.combination.Combination.{Combination}
 use Rattle.farkas_check.specs.Proof.{Proves}
 use Rattle.simplex.specs.Rows.{IsCoprime}
@@ -19,15 +19,6 @@ use Rattle.decider.specs.Decisions.{numbers_of, IsDecision, IsExact}
 use Rattle.decider.proofs.Verdicts.{ranked_of}
 
 -- ---- how a vector ranks the pair
-
-pub leads_left : (levels : List ℕ) (v : List ℤ) (pair : Pair) (lead : ℤ) → lead ≡ dot v (gain levels pair Left) → pos 0 <ℤ lead → Ranks levels v pair Left
-leads_left levels v pair lead e h = omega (arith, ints, e, h, dot-minus v (has levels pair.left) (has levels pair.right))
-
-pub leads_right : (levels : List ℕ) (v : List ℤ) (pair : Pair) (lead : ℤ) → lead ≡ dot v (gain levels pair Left) → lead <ℤ pos 0 → Ranks levels v pair Right
-leads_right levels v pair lead e h = omega (arith, ints, e, h, dot-minus v (has levels pair.left) (has levels pair.right))
-
-pub leads_none : (levels : List ℕ) (v : List ℤ) (pair : Pair) (lead : ℤ) → lead ≡ dot v (gain levels pair Left) → lead ≤ℤ pos 0 → pos 0 ≤ℤ lead → Ranks levels v pair Equal
-leads_none levels v pair lead e h k = omega (arith, ints, e, h, k, dot-minus v (has levels pair.left) (has levels pair.right))
 
 ranks_once : (levels : List ℕ) (v : List ℤ) (pair : Pair) (one other : Side) → Ranks levels v pair one → Ranks levels v pair other → one ≡ other
 ranks_once levels v pair Left Left h k = refl

@@ -12,12 +12,12 @@ use Rattle.criteria_model.specs.declared.pairs.Answer.{Answer}
 use Rattle.criteria_model.specs.declared.pairs.Side.{Side}
 use Rattle.criteria_model.specs.declared.pairs.Side.TheVariants.{Left, Right, Equal}
 use Rattle.criteria_model.specs.Lists.{IsRow, IsVector}
-use Rattle.criteria_model.specs.Rows.{dot, plus, minus, times}
+use Rattle.row_laws.specs.Rows.{dot, plus, minus, times}
 use Rattle.criteria_model.specs.Worth.{increments, IsValueVector}
 use Rattle.criteria_model.specs.Pairs.{IsFit}
 use Rattle.criteria_model.specs.Answers.{Meets, gain}
 use Rattle.criteria_model.proofs.GainLemmas.{Favours, ranks_favours, length-gain}
-use Rattle.criteria_model.proofs.RowLemmas.{length-minus}
+use Rattle.row_laws.proofs.RowLemmas.{length-minus}
 use Rattle.farkas_check.specs.declared.cites.Cite.{Cite}
 use Rattle.farkas_check.specs.declared.combination.Combination.{Combination}
 use Rattle.farkas_check.specs.Sums.{cited_side, cited_gain, total}
@@ -25,7 +25,7 @@ use Rattle.farkas_check.specs.Proof.{Proves, MayWeigh, IsStrict, IsThere, HasStr
 use Rattle.farkas_check.proofs.SumLemmas.{cited_gain-there}
 use Rattle.simplex.specs.Weights.{is_weight}
 use Rattle.simplex.proofs.Sizes.{kept}
-use Rattle.least_index.proofs.Signs.{mul_nonpos}
+use Rattle.row_laws.proofs.Signs.{mul_nonpos}
 use Rattle.std.proofs.Math.IntN.{*ℤ_comm}
 use Rattle.std.proofs.lemmas.Bool.{true≢false}
 use Rattle.std.proofs.lemmas.Option.{slice_get_within}

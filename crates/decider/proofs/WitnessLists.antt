@@ -10,7 +10,7 @@ use Rattle.criteria_model.specs.declared.pairs.Pair.{Pair}
 use Rattle.criteria_model.specs.declared.pairs.Answer.{Answer}
 use Rattle.criteria_model.specs.declared.pairs.Side.{Side}
 use Rattle.criteria_model.specs.declared.pairs.Side.TheVariants.{Left, Right, Equal}
-use Rattle.criteria_model.specs.Rows.{dot}
+use Rattle.row_laws.specs.Rows.{dot}
 use Rattle.criteria_model.specs.Worth.{IsValueVector}
 use Rattle.criteria_model.specs.Answers.{Ranks, Meets, MeetsAll, gain}
 use Rattle.criteria_model.proofs.GainLemmas.{Favours, favours_ranks}

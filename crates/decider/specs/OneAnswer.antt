@@ -4,7 +4,7 @@ use Rattle.criteria_model.specs.declared.pairs.Pair.{Pair}
 use Rattle.criteria_model.specs.declared.pairs.Answer.{Answer}
 use Rattle.criteria_model.specs.declared.pairs.Side.{Side}
 use Rattle.criteria_model.specs.declared.pairs.Side.TheVariants.{Left, Right, Equal}
-use Rattle.criteria_model.specs.Rows.{minus}
+use Rattle.row_laws.specs.Rows.{minus}
 use Rattle.criteria_model.specs.Answers.{gain}
 
 -- on one criterion, by its levels: from `low` to `high` lie all increments between `other_low` and `other_high`, or the one rises and the other falls; or it falls less far

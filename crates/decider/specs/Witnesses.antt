@@ -1,6 +1,6 @@
 -- Vectors that are known to meet answers.
 use Rattle.std.specs.Prelude.{ℕ, ◌≡◌, ◌≤◌, List, Some, length, take, slice_get, All, ℤ, pos, ◌<ℤ◌}
-use Rattle.criteria_model.specs.Rows.{dot}
+use Rattle.row_laws.specs.Rows.{dot}
 use Rattle.criteria_model.specs.declared.pairs.Answer.{Answer}
 use Rattle.criteria_model.specs.Worth.{IsValueVector}
 use Rattle.criteria_model.specs.Answers.{Meets}

@@ -42,7 +42,7 @@ pub fn decide(
     ensures dictionary { IsDictionary work.new }
 {
     bring_up(model, answers, work);
-    let verdict = ranking(model, point, pair);
+    let verdict = model.ranking(point, pair);
     match try_side(model, pair, other_side(verdict), work) {
         Found::Clash(clash) => Decision::Implied {
             verdict,
@@ -52,22 +52,6 @@ pub fn decide(
             let (plus, minus) = opening(model, point, pair, verdict, &other, work);
             Decision::Undecided { plus, minus }
         }
-    }
-}
-
-/// How the values rank the pair.
-fn ranking(model: &Model, point: &Vector, pair: &Pair) -> Side
-    requires fits { IsFit model.now.levels pair.now }
-    requires len { length point.now ≡ increments model.now.levels }
-    ensures { Ranks model.now.levels point.now pair.now result }
-{
-    let lead = point.dot(&model.gain(pair, Side::Left));
-    if lead > 0 {
-        Side::Left
-    } else if lead < 0 {
-        Side::Right
-    } else {
-        Side::Equal
     }
 }
 

@@ -2,7 +2,7 @@
 ghost use Rattle.std.specs.Prelude.{◌≡◌, ◌↔◌, ◌-◌, ◌≤◌, ℤ, count_by, List, length, slice_get, IsTrue, IfSome, IfNone, All, Some, pos};
 ghost use Rattle.criteria_model.specs.declared.pairs.Answer.{Answer};
 ghost use Rattle.criteria_model.specs.Lists.{IsRow};
-ghost use Rattle.criteria_model.specs.Rows.{minus};
+ghost use Rattle.row_laws.specs.Rows.{minus};
 ghost use Rattle.criteria_model.specs.Worth.{IsValueVector};
 ghost use Rattle.criteria_model.specs.Pairs.{IsFit};
 ghost use Rattle.criteria_model.specs.Answers.{Meets, IsSatisfiable};

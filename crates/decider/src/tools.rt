@@ -1,16 +1,26 @@
-//! What a decision works with.
-ghost use Rattle.std.specs.Prelude.{◌≡◌, ◌+◌, ◌≤◌, ◌*◌, [], length, replicate, IfOk, pos};
+//! What a decision works with, and the way to a decision that looks first and solves last.
+ghost use Rattle.std.specs.Prelude.{List, ◌≡◌, ◌≤◌, [], length, replicate, IfOk, IfSome, All, pos};
 ghost use Rattle.criteria_model.specs.Worth.{increments};
 ghost use Rattle.criteria_model.specs.Counts.{class_count};
+ghost use Rattle.criteria_model.specs.Pairs.{IsFit};
+ghost use Rattle.criteria_model.specs.Answers.{Ranks, MeetsAll, Opens};
 ghost use Rattle.fraction_free.specs.Dictionary.{IsDictionary};
-ghost use Rattle.decider.specs.Standing.{StandsFor};
+ghost use Rattle.simplex.specs.Rows.{IsCoprime};
+ghost use Rattle.decider.specs.Standing.{StandsFor, KeepsRoom};
+ghost use Rattle.decider.specs.Decisions.{IsDecision, IsExact, HasFewWeights};
+ghost use Rattle.decider.specs.Reserved.{IsReserved};
 
+use crate::decision::Decision;
+use crate::decisions::decide;
+use crate::one_answer::implied_by_one;
+use crate::witnesses::Witnesses;
 use answer_rows::Answers;
-use criteria_model::{Model, Vector};
+use criteria_model::{MAX_INCREMENTS, Model, Pair, Side, Vector};
 use fraction_free::{Dictionary, NoMemory};
+use simplex::reduced;
 use std::alloc::Global;
 
-/// Answers, a vector that meets them, and a number that tells how often they changed.
+/// Answers, a vector that meets them, and a number that says how often they changed.
 #[derive(Drop)]
 pub struct Snapshot {
     pub answers: Answers,
@@ -18,38 +28,169 @@ pub struct Snapshot {
     pub version: u32,
 }
 
-/// A snapshot, and the dictionary for decisions on it.
+/// A snapshot, and the dictionary for decisions on it. Beside them, vectors that earlier decisions found.
 #[derive(Drop)]
 pub struct Tools {
     pub snapshot: Snapshot,
     pub work: Dictionary,
+    witnesses: Witnesses,
 }
 
 impl Tools {
-    /// Tools with no answers and the vector of ones, and with room for as many answers as the model has
-    /// classes.
+    /// Tools with no answers and the vector of ones, with the rooms that a model needs.
     ///
     /// # Errors
     ///
     /// Where there is no memory.
     pub fn reserve(alloc: Global, model: &Model) -> Result<Tools, NoMemory>
         ensures answers { IfOk result (λ tools. tools.snapshot.answers.answers ≡ []) }
-        ensures spare { IfOk result (λ tools. class_count model.now.levels model.now.degree ≤ tools.snapshot.answers.spare) }
         ensures point { IfOk result (λ tools. tools.snapshot.point ≡ replicate (increments model.now.levels) (pos 1)) }
         ensures version { IfOk result (λ tools. tools.snapshot.version ≡ 0) }
         ensures stands { IfOk result (λ tools. StandsFor model.now.levels [] tools.work) }
-        ensures columns { IfOk result (λ tools. increments model.now.levels ≤ tools.work.room_columns) }
-        ensures rows { IfOk result (λ tools. 2 * class_count model.now.levels model.now.degree + 2 ≤ tools.work.room_rows) }
+        ensures reserved { IfOk result (λ tools. IsReserved model.now tools) }
         ensures dictionary { IfOk result (λ tools. IsDictionary tools.work) }
     {
         let answers = Answers::reserve(alloc, model.class_count())?;
         let work = Dictionary::reserve(alloc, model.increments(), 2 * model.class_count() + 2)?;
-        let ones = [1; 24];
+        let witnesses = Witnesses::reserve(alloc, model)?;
+        let ones = [1; MAX_INCREMENTS];
         let snapshot = Snapshot {
             answers,
             point: Vector::of(&ones[..usize::from(model.increments())]),
             version: 0,
         };
-        Ok(Tools { snapshot, work })
+        Ok(Tools {
+            snapshot,
+            work,
+            witnesses,
+        })
+    }
+
+    /// What the snapshot's answers say of the pair, as [`decide`] gives it. Looks for one answer that gives the
+    /// ranking, then for two known vectors that open the pair, and only then solves: so the dictionary may be as it
+    /// was, and stand for fewer answers.
+    pub fn decide(&mut self, model: &Model, pair: &Pair) -> Decision
+        requires reserved { IsReserved model.now self.old }
+        requires few { length self.old.snapshot.answers.answers ≤ class_count model.now.levels model.now.degree }
+        requires answers_fit { All (λ answer. IsFit model.now.levels answer.pair) self.old.snapshot.answers.answers }
+        requires pair_fits { IsFit model.now.levels pair.now }
+        requires meets { MeetsAll model.now.levels self.old.snapshot.answers.answers self.old.snapshot.point }
+        ensures decision { IsDecision model.now.levels self.old.snapshot.answers.answers pair.now result }
+        ensures exact { IsExact model.now.levels self.old.snapshot.answers.answers pair.now result }
+        ensures few { HasFewWeights result }
+        ensures snapshot { self.new.snapshot ≡ self.old.snapshot }
+        ensures room { KeepsRoom self.old.work self.new.work }
+    {
+        let verdict = model.ranking(&self.snapshot.point, pair);
+        match implied_by_one(model, &self.snapshot.answers, pair, verdict) {
+            Some(combination) => Decision::Implied {
+                verdict,
+                combination,
+            },
+            None => self.open_or_solve(model, pair, verdict),
+        }
+    }
+
+    /// The decision by two known vectors, else by the dictionary.
+    fn open_or_solve(&mut self, model: &Model, pair: &Pair, verdict: Side) -> Decision
+        requires reserved { IsReserved model.now self.old }
+        requires few { length self.old.snapshot.answers.answers ≤ class_count model.now.levels model.now.degree }
+        requires answers_fit { All (λ answer. IsFit model.now.levels answer.pair) self.old.snapshot.answers.answers }
+        requires pair_fits { IsFit model.now.levels pair.now }
+        requires meets { MeetsAll model.now.levels self.old.snapshot.answers.answers self.old.snapshot.point }
+        requires ranked { Ranks model.now.levels self.old.snapshot.point pair.now verdict }
+        ensures decision { IsDecision model.now.levels self.old.snapshot.answers.answers pair.now result }
+        ensures exact { IsExact model.now.levels self.old.snapshot.answers.answers pair.now result }
+        ensures few { HasFewWeights result }
+        ensures snapshot { self.new.snapshot ≡ self.old.snapshot }
+        ensures room { KeepsRoom self.old.work self.new.work }
+    {
+        match opened(model, &self.snapshot, &mut self.witnesses, pair, verdict) {
+            Some((plus, minus)) => Decision::Undecided { plus, minus },
+            None => self.solve(model, pair, verdict),
+        }
+    }
+
+    /// The decision by the dictionary. The vectors that it finds are kept.
+    fn solve(&mut self, model: &Model, pair: &Pair, verdict: Side) -> Decision
+        requires reserved { IsReserved model.now self.old }
+        requires few { length self.old.snapshot.answers.answers ≤ class_count model.now.levels model.now.degree }
+        requires answers_fit { All (λ answer. IsFit model.now.levels answer.pair) self.old.snapshot.answers.answers }
+        requires pair_fits { IsFit model.now.levels pair.now }
+        requires meets { MeetsAll model.now.levels self.old.snapshot.answers.answers self.old.snapshot.point }
+        ensures decision { IsDecision model.now.levels self.old.snapshot.answers.answers pair.now result }
+        ensures exact { IsExact model.now.levels self.old.snapshot.answers.answers pair.now result }
+        ensures few { HasFewWeights result }
+        ensures snapshot { self.new.snapshot ≡ self.old.snapshot }
+        ensures room { KeepsRoom self.old.work self.new.work }
+    {
+        let snapshot = &self.snapshot;
+        let decision = decide(
+            model,
+            &snapshot.answers,
+            &snapshot.point,
+            pair,
+            &mut self.work,
+        );
+        keep_found(model, &snapshot.answers, pair, verdict, &decision, &mut self.witnesses);
+        decision
+    }
+}
+
+/// Two vectors that open the pair, which the point ranks as `verdict` says: the point and a known one against it, or
+/// two known ones where that is equal.
+fn opened(
+    model: &Model,
+    snapshot: &Snapshot,
+    witnesses: &mut Witnesses,
+    pair: &Pair,
+    verdict: Side,
+) -> Option<(Vector, Vector)>
+    requires answers_fit { All (λ answer. IsFit model.now.levels answer.pair) snapshot.now.answers.answers }
+    requires pair_fits { IsFit model.now.levels pair.now }
+    requires meets { MeetsAll model.now.levels snapshot.now.answers.answers snapshot.now.point }
+    requires ranked { Ranks model.now.levels snapshot.now.point pair.now verdict }
+    ensures { IfSome result (λ found. Opens model.now.levels snapshot.now.answers.answers pair.now found.0 found.1 × IsCoprime found.0 × IsCoprime found.1) }
+{
+    let answers = &snapshot.answers;
+    match verdict {
+        Side::Left => match witnesses.find(model, answers, pair, Side::Right) {
+            Some(minus) => Some((reduced(snapshot.point.as_slice()), minus)),
+            None => None,
+        },
+        Side::Right => match witnesses.find(model, answers, pair, Side::Left) {
+            Some(plus) => Some((plus, reduced(snapshot.point.as_slice()))),
+            None => None,
+        },
+        Side::Equal => {
+            let Some(plus) = witnesses.find(model, answers, pair, Side::Left) else {
+                return None;
+            };
+            match witnesses.find(model, answers, pair, Side::Right) {
+                Some(minus) => Some((plus, minus)),
+                None => None,
+            }
+        }
+    }
+}
+
+/// Keeps the vectors of a decision, without the point, which ranks the pair as `verdict` says.
+fn keep_found(
+    model: &Model,
+    answers: &Answers,
+    pair: &Pair,
+    verdict: Side,
+    decision: &Decision,
+    witnesses: &mut Witnesses,
+)
+    requires { IsDecision model.now.levels answers.now.answers pair.now decision.now }
+{
+    if let Decision::Undecided { plus, minus } = decision {
+        if verdict != Side::Left {
+            witnesses.keep(model, answers, plus);
+        }
+        if verdict != Side::Right {
+            witnesses.keep(model, answers, minus);
+        }
     }
 }

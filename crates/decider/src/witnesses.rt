@@ -1,7 +1,7 @@
 //! Vectors that are known to meet answers.
 ghost use Rattle.std.specs.Prelude.{ℤ, ◌≡◌, ◌≢◌, ◌↔◌, ◌+◌, ◌≤◌, ◌<◌, List, [], length, slice_get, take, IsTrue, IfOk, IfSome, All, Some, pos, ◌<ℤ◌};
 ghost use Rattle.criteria_model.specs.declared.pairs.Side.TheVariants.{Equal};
-ghost use Rattle.criteria_model.specs.Rows.{dot};
+ghost use Rattle.row_laws.specs.Rows.{dot};
 ghost use Rattle.criteria_model.specs.Worth.{increments, IsValueVector};
 ghost use Rattle.criteria_model.specs.Pairs.{IsFit};
 ghost use Rattle.criteria_model.specs.Answers.{Ranks, Meets, MeetsAll};

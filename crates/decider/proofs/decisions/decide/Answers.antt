@@ -26,7 +26,7 @@ refuted c = record {
   meets = c.requires.meets;
   stands = c.bring_up.ensures.up.stands;
   dictionary = c.bring_up.ensures.dictionary;
-  ranks = c.ranking-verdict.ensures;
+  ranks = c.ranking-verdict.ensures.ranks;
   tried_is = c.other_side.ensures;
   clashes = c.in-Clash.ensures.found.0;
   combines = c.combination_of.ensures.combines;
@@ -59,7 +59,7 @@ opening-plus-requires-clause-point c =
 pub opening-plus-requires-clause-mirrored : goal.opening-plus-requires-clause-mirrored
 opening-plus-requires-clause-mirrored c e =
     standing_mirrored c.args.model.now.levels c.args.answers.now.answers c.bring_up.new.work c.try_side.new.work c.args.point.now c.in-Point.other c.args.pair.now c.ranking-verdict.result c.other_side.result
-    c.bring_up.ensures.up.stands c.try_side.ensures.columns c.try_side.ensures.loaded c.requires.meets c.ranking-verdict.ensures c.other_side.ensures c.in-Point.ensures.found.0 e
+    c.bring_up.ensures.up.stands c.try_side.ensures.columns c.try_side.ensures.loaded c.requires.meets c.ranking-verdict.ensures.ranks c.other_side.ensures c.in-Point.ensures.found.0 e
 
 stands_still : (c : After-opening-plus) → StandsFor c.args.model.now.levels c.args.answers.now.answers c.try_side.new.work
 stands_still c = standing_still c.args.model.now.levels c.args.answers.now.answers c.bring_up.new.work c.try_side.new.work c.try_side.ensures.columns c.try_side.ensures.loaded c.bring_up.ensures.up.stands

@@ -1,7 +1,7 @@
 use Rattle.std.proofs.Common.{◌≡◌, ◌≤◌, pos, ap, ap₂, length, sym, subst, ◌∙◌}
 use Rattle.std.specs.Prelude.{count_by}
 use Rattle.criteria_model.specs.Lists.{IsRow}
-use Rattle.criteria_model.specs.Rows.{minus}
+use Rattle.row_laws.specs.Rows.{minus}
 use Rattle.criteria_model.proofs.GainLemmas.{length-gain}
 use Rattle.farkas_check.specs.Proof.{Proves}
 use Rattle.simplex.specs.Weights.{is_weight}

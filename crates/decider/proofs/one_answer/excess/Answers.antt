@@ -3,7 +3,7 @@ use mir.Syntax.{w8, w128}
 use Rattle.std.proofs.lemmas.Int.{fits_signed_from_abs, to_z-of_z}
 use Rattle.std.proofs.lemmas.List.{length-set}
 use Rattle.criteria_model.specs.Lists.{IsVector}
-use Rattle.criteria_model.specs.Rows.{minus}
+use Rattle.row_laws.specs.Rows.{minus}
 use Rattle.decider.proofs.OneAnswers.{difference_kept, difference_step, differences_are, differences_small}
 use Rattle.decider.proofs.one_answer.excess.Goals as goal
 

@@ -7,18 +7,16 @@ use Rattle.criteria_model.specs.declared.pairs.Side.TheVariants.{Equal}
 use Rattle.row_laws.specs.Rows.{times}
 use Rattle.criteria_model.specs.Answers.{Ranks, MeetsAll}
 use Rattle.decider.proofs.Standings.{rows_len-whole}
-use Rattle.decider.proofs.AnswerRows.{meets_more, meets_scaled, ranks_scaled, standing_meets, meets_standing}
+use Rattle.decider.proofs.AnswerRows.{meets_more, without_factor, standing_meets, meets_standing}
 use Rattle.decider.proofs.Between.{between, between_equal, between_meets}
 use Rattle.decider.proofs.point.point_with.Goals as goal
 
 -- a vector without its factor meets the answers with one more that the vector meets
 factor_meets : (levels : List ℕ) (answers : List Answer) (pair : Pair) (side : Side) (vector given kept : List ℤ) → given ≡ vector → (factor : ℤ) × (pos 1 ≤ℤ factor) × (given ≡ times factor kept) → All (λ x. pos 1 ≤ℤ x) kept
     → MeetsAll levels answers vector → Ranks levels vector pair side → MeetsAll levels (answers ++ (record { pair = pair; side = side }) ∷ []) kept
-factor_meets levels answers pair side vector given kept same (factor, low, multiple) positive meets ranks =
-    let e : vector ≡ times factor kept = sym same ∙ multiple in
-    meets_more levels answers kept (record { pair = pair; side = side })
-    (meets_scaled levels answers factor kept low positive (subst (MeetsAll levels answers) e meets))
-    (ranks_scaled levels factor kept pair side low (subst (λ (v : List ℤ). Ranks levels v pair side) e ranks))
+factor_meets levels answers pair side vector given kept same multiple positive meets ranks =
+    let both = without_factor levels answers pair side vector given kept same multiple positive meets ranks in
+    meets_more levels answers kept (record { pair = pair; side = side }) both.0 both.1
 
 pub point_for-requires-clause-room : goal.point_for-requires-clause-room
 point_for-requires-clause-room c =

@@ -1,5 +1,5 @@
 use Rattle.std.proofs.Common.{◌≡◌, ℤ, pos, ◌<ℤ◌, List, length, ap, sym, ◌∙◌}
-use Rattle.criteria_model.specs.Rows.{dot}
+use Rattle.row_laws.specs.Rows.{dot}
 use Rattle.criteria_model.specs.Worth.{increments}
 use Rattle.criteria_model.specs.Answers.{Ranks, MeetsAll}
 use Rattle.criteria_model.proofs.GainLemmas.{length-gain}

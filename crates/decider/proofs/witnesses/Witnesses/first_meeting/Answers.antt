@@ -1,7 +1,7 @@
 use Rattle.std.proofs.Common.{ℕ, ℤ, pos, ◌<ℤ◌, List, subst, sym}
 use Rattle.std.specs.Prelude.{All}
 use Rattle.std.proofs.lemmas.Option.{slice_get_within}
-use Rattle.criteria_model.specs.Rows.{dot}
+use Rattle.row_laws.specs.Rows.{dot}
 use Rattle.criteria_model.specs.Answers.{Meets, MeetsAll}
 use Rattle.simplex.specs.Rows.{IsCoprime}
 use Rattle.decider.proofs.WitnessLists.{meets_known}
