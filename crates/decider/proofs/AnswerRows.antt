@@ -15,7 +15,7 @@ use Rattle.criteria_model.specs.Worth.{has, increments, IsValueVector}
 use Rattle.criteria_model.specs.Answers.{Ranks, Meets, MeetsAll, gain}
 use Rattle.row_laws.proofs.Signs.{positive_from_multiple, zero_from_multiple}
 use Rattle.criteria_model.proofs.GainLemmas.{Favours, ranks_favours, favours_ranks}
-use Rattle.row_laws.proofs.RowLemmas.{dot-minus, dot-times, length-times}
+use Rattle.row_laws.proofs.RowLemmas.{dot_comm, dot-minus, dot-times, length-times}
 use Rattle.fraction_free.specs.declared.loaded.LoadedRow.{LoadedRow}
 use Rattle.fraction_free.specs.Dictionary.{DictionaryView, no_row}
 use Rattle.simplex.specs.Rows.{MeetsRows}
@@ -72,15 +72,9 @@ meets_later columns some more vector meets = record {
 
 -- ---- the rows of a ranking
 
-pub dot-comm : (a b : List ℤ) → dot a b ≡ dot b a
-dot-comm [] [] = refl
-dot-comm [] (y ∷ b) = refl
-dot-comm (x ∷ a) [] = refl
-dot-comm (x ∷ a) (y ∷ b) = ap₂ (λ (p q : ℤ). p +ℤ q) (*ℤ_comm x y) (dot-comm a b)
-
 -- the product with the difference of what two alternatives have
 apart : (levels high low : List ℕ) (values : List ℤ) → dot (minus (has levels high) (has levels low)) values ≡ dot values (has levels high) -ℤ dot values (has levels low)
-apart levels high low values = dot-comm (minus (has levels high) (has levels low)) values ∙ dot-minus values (has levels high) (has levels low)
+apart levels high low values = dot_comm (minus (has levels high) (has levels low)) values ∙ dot-minus values (has levels high) (has levels low)
 
 ranks_each : (levels : List ℕ) (values : List ℤ) (pair : Pair) (side : Side) → Ranks levels values pair side → All (MeetsRow values) (rows_of levels pair side)
 ranks_each levels values pair Left ranks =
@@ -169,7 +163,7 @@ meets_more levels answers values answer meets also = record { vector = meets.vec
 -- ---- a vector without a factor ranks as the one with it
 
 dot-scaled : (factor : ℤ) (values row : List ℤ) → dot (times factor values) row ≡ factor *ℤ dot values row
-dot-scaled factor values row = dot-comm (times factor values) row ∙ dot-times factor row values ∙ ap (λ (z : ℤ). factor *ℤ z) (dot-comm row values)
+dot-scaled factor values row = dot_comm (times factor values) row ∙ dot-times factor row values ∙ ap (λ (z : ℤ). factor *ℤ z) (dot_comm row values)
 
 favours_scaled : (side : Side) (factor x : ℤ) → pos 1 ≤ℤ factor → Favours side (factor *ℤ x) → Favours side x
 favours_scaled Left factor x low favours = positive_from_multiple factor x low favours

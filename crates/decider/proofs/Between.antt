@@ -13,9 +13,8 @@ use Rattle.criteria_model.specs.Worth.{has}
 use Rattle.criteria_model.specs.Answers.{Ranks, MeetsAll, Opens, gain}
 use Rattle.row_laws.proofs.Integers.{mul-neg}
 use Rattle.row_laws.proofs.Signs.{mul_positive}
-use Rattle.row_laws.proofs.RowLemmas.{dot-plus, dot-times, dot-minus, length-plus, length-times}
+use Rattle.row_laws.proofs.RowLemmas.{dot_comm, dot-plus, dot-times, dot-minus, length-plus, length-times}
 use Rattle.criteria_model.proofs.GainLemmas.{Favours, ranks_favours, favours_ranks}
-use Rattle.decider.proofs.AnswerRows.{dot-comm}
 
 -- a multiple of one vector and a multiple of another
 abbrev pub mixed : ℤ → List ℤ → ℤ → List ℤ → List ℤ
@@ -26,8 +25,8 @@ sum_positive p q h k = omega (arith, ints)
 
 dot-mixed : (a : ℤ) (v : List ℤ) (b : ℤ) (w row : List ℤ) → dot (mixed a v b w) row ≡ a *ℤ dot v row +ℤ b *ℤ dot w row
 dot-mixed a v b w row =
-    dot-comm (mixed a v b w) row ∙ dot-plus row (times a v) (times b w)
-    ∙ ap₂ (λ (x y : ℤ). x +ℤ y) (dot-times a row v ∙ ap (λ (x : ℤ). a *ℤ x) (dot-comm row v)) (dot-times b row w ∙ ap (λ (x : ℤ). b *ℤ x) (dot-comm row w))
+    dot_comm (mixed a v b w) row ∙ dot-plus row (times a v) (times b w)
+    ∙ ap₂ (λ (x y : ℤ). x +ℤ y) (dot-times a row v ∙ ap (λ (x : ℤ). a *ℤ x) (dot_comm row v)) (dot-times b row w ∙ ap (λ (x : ℤ). b *ℤ x) (dot_comm row w))
 
 favours_mixed : (side : Side) (a x b y : ℤ) → pos 1 ≤ℤ a → pos 1 ≤ℤ b → Favours side x → Favours side y → Favours side (a *ℤ x +ℤ b *ℤ y)
 favours_mixed Left a x b y low low' f g = sum_positive (a *ℤ x) (b *ℤ y) (mul_positive a x low f) (mul_positive b y low' g)

@@ -29,7 +29,6 @@ use Rattle.decider.specs.Standing.{rows_of, rows_of_answers}
 use Rattle.decider.specs.Combining.{rows_for, rows_in, first_row, IsOpposed, cited_sum, times_cites}
 use Rattle.decider.specs.Trying.{against}
 use Rattle.decider.proofs.Citing.{rows_for-length}
-use Rattle.decider.proofs.ClashValues.{get_or-plus, get_or-times}
 
 -- ---- gains place by place
 

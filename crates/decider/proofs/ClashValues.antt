@@ -7,7 +7,7 @@ use Rattle.std.proofs.lemmas.List.Elements.{All-head, All-tail}
 use Rattle.row_laws.proofs.Integers.{sums, mul-zero}
 use Rattle.row_laws.specs.Rows.{dot, plus, times}
 use Rattle.row_laws.proofs.Signs.{mul_nonneg, mul_positive}
-use Rattle.row_laws.proofs.RowLemmas.{dot-plus, dot-times}
+use Rattle.row_laws.proofs.RowLemmas.{dot_comm, dot-plus, dot-times, entry-plus, entry-times}
 use Rattle.fraction_free.specs.declared.loaded.LoadedRow.{LoadedRow}
 use Rattle.fraction_free.specs.Dictionary.{loaded_at, no_row}
 use Rattle.simplex.specs.declared.row_weights.RowWeight.{RowWeight}
@@ -16,23 +16,9 @@ use Rattle.simplex.specs.Weights.{IsRowWeight, weighted}
 use Rattle.simplex.specs.Rows.{MeetsRows}
 use Rattle.simplex.specs.Results.{coefficient, IsStrictRow, IsClash}
 use Rattle.simplex.proofs.ClashParts.{weighted_nonneg}
-use Rattle.decider.proofs.AnswerRows.{dot-comm}
+use Rattle.row_laws.proofs.ListLemmas.{Any-cases}
 
 -- ---- sums place by place
-
-pub get_or-plus : (a b : List ℤ) (j : ℕ) → get_or (plus a b) j (pos 0) ≡ get_or a j (pos 0) +ℤ get_or b j (pos 0)
-get_or-plus [] b zero = omega (arith, sums)
-get_or-plus [] b (suc j) = omega (arith, sums)
-get_or-plus (x ∷ a) [] zero = omega (arith, sums)
-get_or-plus (x ∷ a) [] (suc j) = omega (arith, sums)
-get_or-plus (x ∷ a) (y ∷ b) zero = refl
-get_or-plus (x ∷ a) (y ∷ b) (suc j) = get_or-plus a b j
-
-pub get_or-times : (k : ℤ) (a : List ℤ) (j : ℕ) → get_or (times k a) j (pos 0) ≡ k *ℤ get_or a j (pos 0)
-get_or-times k [] zero = sym (mul-zero k)
-get_or-times k [] (suc j) = sym (mul-zero k)
-get_or-times k (x ∷ a) zero = refl
-get_or-times k (x ∷ a) (suc j) = get_or-times k a j
 
 -- for each increment, its own weight and the sum, over the weighted rows, of weight times coefficient
 abbrev row_total : List LoadedRow → List ℤ → List RowWeight → List ℤ
@@ -58,7 +44,7 @@ total_at loaded own [] j = add_zero (get_or own j (pos 0))
 total_at loaded own (x ∷ rows) j =
     total_at loaded (plus own (times x.weight (loaded_at loaded (x.row - 1)).coefficients)) rows j
     ∙ ap (λ (s : ℤ). s +ℤ weighted (coefficient loaded j) rows)
-    (get_or-plus own (times x.weight (loaded_at loaded (x.row - 1)).coefficients) j ∙ ap (λ (s : ℤ). get_or own j (pos 0) +ℤ s) (get_or-times x.weight (loaded_at loaded (x.row - 1)).coefficients j))
+    (entry-plus own (times x.weight (loaded_at loaded (x.row - 1)).coefficients) j ∙ ap (λ (s : ℤ). get_or own j (pos 0) +ℤ s) (entry-times x.weight (loaded_at loaded (x.row - 1)).coefficients j))
     ∙ regroup (get_or own j (pos 0)) (x.weight *ℤ coefficient loaded j x.row) (weighted (coefficient loaded j) rows)
 
 dot_zeros : (p xs : List ℤ) → ((j : ℕ) → j < length p → get_or xs j (pos 0) ≡ pos 0) → dot p xs ≡ pos 0
@@ -75,10 +61,6 @@ clash_value columns loaded clash p is len =
     ∙ dot_zeros p (row_total loaded clash.increments clash.rows) (λ j lt. total_at loaded clash.increments clash.rows j ∙ is.sums j (omega (arith, len)))
 
 -- ---- signs
-
-Any-cases : {X : Type 0} (P : X → Type 0) (x : X) (xs : List X) → Any P (x ∷ xs) → P x ⊎ Any P xs
-Any-cases P x xs (zero, y, within, at, h) = inl (subst P (sym at) h)
-Any-cases P x xs (suc k, y, within, at, h) = inr (k, y, omega arith, at, h)
 
 weak : (a : ℤ) → pos 1 ≤ℤ a → pos 0 ≤ℤ a
 weak a h = omega (arith, ints)
@@ -150,7 +132,7 @@ met_is_no_clash columns some more clash p is meets leasts within =
     at_least : (r : ℕ) → 1 ≤ r → r ≤ length some → (loaded_at (some ++ more) (r - 1)).least ≤ℤ value r
     at_least r low high =
         subst (λ (row : LoadedRow). row.least ≤ℤ dot p row.coefficients) (sym (row_is r low high))
-        (subst (λ (n : ℤ). (loaded_at some (r - 1)).least ≤ℤ n) (dot-comm (loaded_at some (r - 1)).coefficients p) (meets.each (r - 1) (omega arith)))
+        (subst (λ (n : ℤ). (loaded_at some (r - 1)).least ≤ℤ n) (dot_comm (loaded_at some (r - 1)).coefficients p) (meets.each (r - 1) (omega arith)))
 
     at_most : (a b : ℤ) → pos 0 ≤ℤ a → a ≤ℤ b → pos 0 ≤ℤ b
     at_most a b h k = omega (arith, ints)

@@ -12,8 +12,7 @@ use Rattle.row_laws.specs.Rows.{dot, minus, times}
 use Rattle.criteria_model.specs.Worth.{has, worth}
 use Rattle.criteria_model.specs.Answers.{Ranks, Meets, MeetsAll, gain}
 use Rattle.criteria_model.proofs.GainLemmas.{Favours, ranks_favours, favours_ranks}
-use Rattle.row_laws.proofs.RowLemmas.{dot-minus, dot-times, length-minus, length-times}
-use Rattle.decider.proofs.AnswerRows.{dot-comm}
+use Rattle.row_laws.proofs.RowLemmas.{dot_comm, dot-minus, dot-times, length-minus, length-times}
 
 -- a multiple of the one vector, without the other
 abbrev pub mirror : ℕ → List ℤ → List ℤ → List ℤ
@@ -21,9 +20,9 @@ mirror k point other = minus (times (pos k) point) other
 
 dot_mirror : (k : ℕ) (point other row : List ℤ) → dot (mirror k point other) row ≡ pos k *ℤ dot point row -ℤ dot other row
 dot_mirror k point other row =
-    dot-comm (mirror k point other) row ∙ dot-minus row (times (pos k) point) other
-    ∙ ap (λ (n : ℤ). n -ℤ dot row other) (dot-times (pos k) row point ∙ ap (λ (n : ℤ). pos k *ℤ n) (dot-comm row point))
-    ∙ ap (λ (n : ℤ). pos k *ℤ dot point row -ℤ n) (dot-comm row other)
+    dot_comm (mirror k point other) row ∙ dot-minus row (times (pos k) point) other
+    ∙ ap (λ (n : ℤ). n -ℤ dot row other) (dot-times (pos k) row point ∙ ap (λ (n : ℤ). pos k *ℤ n) (dot_comm row point))
+    ∙ ap (λ (n : ℤ). pos k *ℤ dot point row -ℤ n) (dot_comm row other)
 
 at_least_factor : (k : ℕ) (x : ℤ) → pos 1 ≤ℤ x → pos k ≤ℤ (pos k *ℤ x)
 at_least_factor k (pos n) h = let p : 1 ≤ n = omega (arith, ints) in let le : k * 1 ≤ k * n = mul-le-mul_left k p in omega (arith, ints)

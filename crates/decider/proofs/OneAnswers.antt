@@ -12,16 +12,17 @@ use Rattle.criteria_model.specs.declared.pairs.Answer.{Answer}
 use Rattle.criteria_model.specs.declared.pairs.Side.{Side}
 use Rattle.criteria_model.specs.declared.pairs.Side.TheVariants.{Left, Right, Equal}
 use Rattle.criteria_model.specs.Lists.{IsRow, IsVector}
-use Rattle.row_laws.specs.Rows.{dot, plus, minus, times}
+use Rattle.row_laws.specs.Rows.{dot, entry, minus}
 use Rattle.criteria_model.specs.Worth.{increments, IsValueVector}
 use Rattle.criteria_model.specs.Pairs.{IsFit}
 use Rattle.criteria_model.specs.Answers.{Meets, gain}
 use Rattle.criteria_model.proofs.GainLemmas.{Favours, ranks_favours, length-gain}
-use Rattle.row_laws.proofs.RowLemmas.{length-minus}
+use Rattle.row_laws.proofs.RowLemmas.{length-minus, entry-minus}
+use Rattle.row_laws.proofs.Integers.{sums, one-mul}
 use Rattle.farkas_check.specs.declared.cites.Cite.{Cite}
 use Rattle.farkas_check.specs.declared.combination.Combination.{Combination}
-use Rattle.farkas_check.specs.Sums.{cited_side, cited_gain, total}
-use Rattle.farkas_check.specs.Proof.{Proves, MayWeigh, IsStrict, IsThere, HasStrict, Suits}
+use Rattle.farkas_check.specs.Sums.{cited_side, cited_gain}
+use Rattle.farkas_check.specs.Proof.{Proves, MayWeigh, IsStrict, IsThere, HasStrict, IsStrictEnough}
 use Rattle.farkas_check.proofs.SumLemmas.{cited_gain-there}
 use Rattle.simplex.specs.Weights.{is_weight}
 use Rattle.simplex.proofs.Sizes.{kept}
@@ -31,16 +32,6 @@ use Rattle.std.proofs.lemmas.Bool.{true≢false}
 use Rattle.std.proofs.lemmas.Option.{slice_get_within}
 use Rattle.std.proofs.lemmas.List.{get_or-set_other, get_or-set_same}
 use Rattle.decider.specs.OneAnswer.{Suffices}
-
-times_one : (xs : List ℤ) → times (pos 1) xs ≡ xs
-times_one [] = refl
-times_one (x ∷ xs) = ap₂ (λ (y : ℤ) (ys : List ℤ). y ∷ ys) (let e : pos 1 *ℤ x ≡ x = omega (arith, ints) in e) (times_one xs)
-
-plus-minus : (g a : List ℤ) → length g ≡ length a → plus (minus g a) a ≡ g
-plus-minus [] [] e = refl
-plus-minus [] (y ∷ a) e = absurd (omega (arith, e))
-plus-minus (x ∷ g) [] e = absurd (omega (arith, e))
-plus-minus (x ∷ g) (y ∷ a) e = ap₂ (λ (z : ℤ) (zs : List ℤ). z ∷ zs) (let f : x -ℤ y +ℤ y ≡ x = omega (arith, ints) in f) (plus-minus g a (omega arith))
 
 -- the numbered answer with weight 1, and what the pair gains more
 pub with_proves : (levels : List ℕ) (answers : List Answer) (number : ℕ) (answer : Answer) (pair : Pair) (verdict : Side) (own : List ℤ) → 1 ≤ number → slice_get answers (number - 1) ≡ Some answer
@@ -52,10 +43,10 @@ with_proves levels answers number answer pair verdict own low is fits pair_fits 
   own = subst (All (λ x. pos 0 ≤ℤ x)) (sym own_is) s.covers;
   cited = All-cons (IsThere answers) cite [] (low, omega (arith, low, slice_get_within answers (number - 1) answer is)) (All-nil (IsThere answers));
   weights = All-cons (λ (c : Cite). MayWeigh (cited_side answers c) c.weight) cite [] (subst (λ (s : Side). MayWeigh s (pos 1)) (sym side_is) (may answer.side)) (All-nil (λ (c : Cite). MayWeigh (cited_side answers c) c.weight));
-  sums = times_one (gain levels pair verdict)
-      ∙ sym (plus-minus (gain levels pair verdict) (gain levels answer.pair answer.side) (length-gain levels pair verdict pair_fits ∙ sym (length-gain levels answer.pair answer.side fits)))
-      ∙ ap₂ plus (sym own_is) (sym (times_one (gain levels answer.pair answer.side)) ∙ ap (times (pos 1)) (sym (cited_gain-there levels answers cite answer is)));
-  strict = suits verdict s.verdict_strict (inr (0, cite, omega arith, refl, subst (λ (s : Side). IsStrict s (pos 1)) (sym side_is) (strict answer.side s.answer_strict)));
+  sums = λ place lt.
+    omega (arith, sums, ap (λ (row : List ℤ). entry row place) own_is, entry-minus (gain levels pair verdict) (gain levels answer.pair answer.side) place,
+      ap (λ (row : List ℤ). entry row place) (cited_gain-there levels answers cite answer is), one-mul (entry (gain levels pair verdict) place), one-mul (entry (cited_gain levels answers cite) place));
+  strict = enough verdict s.verdict_strict (inr (0, cite, omega arith, refl, subst (λ (s : Side). IsStrict s (pos 1)) (sym side_is) (strict answer.side s.answer_strict)));
 }
   where
     cite : Cite
@@ -70,10 +61,10 @@ with_proves levels answers number answer pair verdict own low is fits pair_fits 
     strict Left other = omega (arith, ints)
     strict Right other = omega (arith, ints)
     strict Equal other = absurd (other refl)
-    suits : {P : Type 0} (side : Side) → (side ≡ Equal → ⊥) → P → Suits side P
-    suits Left other p = p
-    suits Right other p = p
-    suits Equal other p = absurd (other refl)
+    enough : (side : Side) → (side ≡ Equal → ⊥) → HasStrict answers (record { scale = pos 1; increments = own; answers = cite ∷ [] }) → IsStrictEnough answers (record { scale = pos 1; increments = own; answers = cite ∷ [] }) side
+    enough Left other some = some
+    enough Right other some = some
+    enough Equal other some = absurd (other refl)
 
 -- ---- the differences of two rows
 

@@ -16,7 +16,7 @@ use Rattle.criteria_model.specs.Worth.{increments}
 use Rattle.criteria_model.specs.Pairs.{IsFit, turned}
 use Rattle.criteria_model.specs.Answers.{Ranks, MeetsAll, IsRanked, gain}
 use Rattle.criteria_model.proofs.GainLemmas.{length-gain}
-use Rattle.row_laws.proofs.RowLemmas.{length-times}
+use Rattle.row_laws.proofs.RowLemmas.{length-times, entry-times}
 use Rattle.farkas_check.specs.declared.cites.Cite.{Cite}
 use Rattle.farkas_check.specs.declared.combination.Combination.{Combination}
 use Rattle.farkas_check.specs.Cited.{no_cite}
@@ -36,7 +36,8 @@ use Rattle.decider.specs.Trying.{against}
 use Rattle.decider.proofs.AnswerRows.{all_meets_rows}
 use Rattle.decider.proofs.Citing.{rows_for-length}
 use Rattle.decider.proofs.Walks.{rows_apart}
-use Rattle.decider.proofs.ClashValues.{get_or-times, met_is_no_clash}
+use Rattle.decider.proofs.ClashValues.{met_is_no_clash}
+use Rattle.row_laws.proofs.ListLemmas.{Any-cases}
 use Rattle.decider.proofs.CitedGains.{gain_against, rows_length, leasts_nonneg, coefficients_opposed, tried_coefficient, sum_of_cites-is, cited_coefficients, cited_sum-times}
 
 one_row : (side : Side) → rows_for (against side) ≡ 1
@@ -121,7 +122,7 @@ module _ (levels : List ℕ) (answers : List Answer) (pair : Pair) (side : Side)
       at_least_one a h = omega (arith, ints)
 
   own_at : (j : ℕ) → get_or clash.increments j (pos 0) ≡ d *ℤ get_or combination.increments j (pos 0)
-  own_at j = ap (λ (l : List ℤ). get_or l j (pos 0)) c.combines.increments ∙ get_or-times d combination.increments j
+  own_at j = ap (λ (l : List ℤ). get_or l j (pos 0)) c.combines.increments ∙ entry-times d combination.increments j
 
   own : HasNonnegativeIncrements combination
   own = All-from_get_or (λ weight. pos 0 ≤ℤ weight) combination.increments (pos 0) (λ k lt.
@@ -254,10 +255,6 @@ module _ (levels : List ℕ) (answers : List Answer) (pair : Pair) (side : Side)
       count_same = ap (count_by is_weight) c.combines.increments ∙ count_times combination.increments
 
 -- ---- a strict weight, or none
-
-Any-cases : {X : Type 0} (P : X → Type 0) (x : X) (xs : List X) → Any P (x ∷ xs) → P x ⊎ Any P xs
-Any-cases P x xs (zero, y, within, at, h) = inl (subst P (sym at) h)
-Any-cases P x xs (suc k, y, within, at, h) = inr (k, y, omega arith, at, h)
 
 some_or_none : {X : Type 0} (P : X → Type 0) → ((x : X) → P x ⊎ (P x → ⊥)) → (xs : List X) → Any P xs ⊎ (Any P xs → ⊥)
 some_or_none P test [] = inr (λ any. absurd (omega (arith, any.2)))

@@ -1,13 +1,15 @@
-//! Decides all classes of six criteria of four levels, along the answers that hidden values give: with the
-//! dictionary of the decision before (warm), and with one that is loaded anew for each (cold). Without the word
-//! `time` it only counts.
+//! Decides all classes of six criteria of four levels, along the answers that hidden values give: by
+//! `Tools::decide`, which looks before it solves (tools), by a solve with the dictionary of the decision before
+//! (warm), and by one with a dictionary that is loaded anew for each (cold). Without the word `time` it only counts.
 #![tactic(auto)]
 
 mod hidden;
 mod run;
+mod tally;
 
 use crate::hidden::hidden_values;
 use crate::run::{Start, decide_rounds};
+use crate::tally::Tally;
 use criteria_model::Model;
 use decider::Tools;
 use pair_enumeration::Classes;
@@ -17,17 +19,19 @@ use std::{env, io};
 
 fn main(rt: HostRuntime) -> io::Result<()> {
     let timed = env::args(&rt)?.any(|word| word.as_str() == "time");
-    println!(rt; "degree start classes answers loads rows")?;
+    println!(rt; "degree start classes answers one_answer known implied undecided loads rows")?;
     let rounds = if timed { 20 } else { 1 };
+    measure(&rt, rt.alloc(), 2, Start::Tools, rounds, timed)?;
     measure(&rt, rt.alloc(), 2, Start::Warm, rounds, timed)?;
     measure(&rt, rt.alloc(), 2, Start::Cold, rounds, timed)?;
     if timed {
+        measure(&rt, rt.alloc(), 3, Start::Tools, 1, timed)?;
         measure(&rt, rt.alloc(), 3, Start::Warm, 1, timed)?;
     }
     Ok(())
 }
 
-// Decides all classes of a degree limit so many times, and prints a line on it.
+// Decides all classes of a degree limit in each of `rounds` rounds, and prints a line on it.
 fn measure<R: Print + CpuClock>(
     rt: &R,
     alloc: Global,
@@ -43,14 +47,21 @@ fn measure<R: Print + CpuClock>(
     let mut tools = Tools::reserve(alloc, &model)?;
     let hidden = hidden_values(1, model.increments());
     let before = rt.thread_cpu_time()?;
-    decide_rounds(&classes, &hidden, start, rounds, &mut tools);
+    let mut tally = Tally::none();
+    decide_rounds(&classes, &hidden, start, rounds, &mut tools, &mut tally);
     let took = rt.thread_cpu_time()?.saturating_sub(before);
     let count = classes.count();
     let answers = tools.snapshot.answers.len();
     let loads = tools.work.loads();
     let rows = tools.work.added();
     let word = start.word();
-    print!(rt; "{degree:<6} {word:<5} {count:<7} {answers:<7} {loads:<5} {rows}")?;
+    let Tally {
+        one_answer,
+        known,
+        implied,
+        undecided,
+    } = tally;
+    print!(rt; "{degree:<6} {word:<5} {count:<7} {answers:<7} {one_answer:<10} {known:<5} {implied:<7} {undecided:<9} {loads:<5} {rows}")?;
     report(rt, count.saturating_mul(rounds), took, timed)
 }
 

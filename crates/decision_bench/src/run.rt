@@ -1,21 +1,27 @@
 //! A run of decisions along answers.
-ghost use Rattle.std.specs.Prelude.{◌≡◌, ◌+◌, ◌-◌, ◌≤◌, length, All, pos, ◌≤ℤ◌};
+ghost use Rattle.std.specs.Prelude.{◌≡◌, ◌-◌, ◌≤◌, length, All, pos, ◌≤ℤ◌};
 ghost use Rattle.criteria_model.specs.Worth.{increments, IsValueVector};
+ghost use Rattle.criteria_model.specs.Counts.{class_count};
 ghost use Rattle.criteria_model.specs.Pairs.{IsFit};
+ghost use Rattle.criteria_model.specs.Answers.{MeetsAll};
+ghost use Rattle.decider.specs.Decisions.{IsDecision};
+ghost use Rattle.decider.specs.Reserved.{IsReserved};
 ghost use Rattle.decider.specs.Standing.{KeepsRoom};
-ghost use Rattle.decision_bench.specs.Run.{HasRooms, IsUnderway};
+ghost use Rattle.decision_bench.specs.Run.{IsUnderway};
 
-use criteria_model::{Answer, Model, Pair, Side, Vector};
+use crate::tally::Tally;
+use criteria_model::{Answer, MAX_INCREMENTS, Model, Pair, Side, Vector};
 use decider::{Decision, Tools, decide, point_with};
-use fraction_free::Dictionary;
 use pair_enumeration::Classes;
 
-/// With which dictionary a decision starts.
+/// How a decision is come to.
 #[derive(Clone, Copy, PartialEq, Eq, Debug)]
 pub enum Start {
-    /// That of the decision before.
+    /// By `Tools::decide`, which solves last.
+    Tools,
+    /// By a solve with the dictionary of the decision before.
     Warm,
-    /// One with no rows.
+    /// By a solve with a dictionary of no rows.
     Cold,
 }
 
@@ -23,61 +29,72 @@ impl Start {
     /// Its word in the output.
     pub fn word(self) -> &'static str {
         match self {
+            Start::Tools => "tools",
             Start::Warm => "warm",
             Start::Cold => "cold",
         }
     }
 }
 
-/// Decides all classes so many times.
+/// Decides all classes in each of `rounds` rounds.
 pub fn decide_rounds(
     classes: &Classes,
     hidden: &Vector,
     start: Start,
     rounds: u32,
     tools: &mut Tools,
+    tally: &mut Tally,
 )
     requires hidden { length hidden.now ≡ increments classes.now.criteria.levels }
-    requires rooms { HasRooms classes.now.criteria.levels (length classes.now.classes) tools.old }
+    requires reserved { IsReserved classes.now.criteria tools.old }
 {
     for _ in 0..rounds {
-        decide_all(classes, hidden, start, tools);
+        decide_all(classes, hidden, start, tools, tally);
     }
 }
 
 /// Decides each class in order, from no answers on, and answers those that are open by the hidden values.
-fn decide_all(classes: &Classes, hidden: &Vector, start: Start, tools: &mut Tools)
+fn decide_all(
+    classes: &Classes,
+    hidden: &Vector,
+    start: Start,
+    tools: &mut Tools,
+    tally: &mut Tally,
+)
     requires hidden { length hidden.now ≡ increments classes.now.criteria.levels }
-    requires rooms { HasRooms classes.now.criteria.levels (length classes.now.classes) tools.old }
-    ensures { HasRooms classes.now.criteria.levels (length classes.now.classes) tools.new }
+    requires reserved { IsReserved classes.now.criteria tools.old }
+    ensures { IsReserved classes.now.criteria tools.new }
 {
     tools.snapshot.answers.cut(0);
     tools.snapshot.point = ones(classes.model().increments());
     for at in 0..classes.count() {
-        decide_next(classes, at + 1, hidden, start, tools);
+        decide_next(classes, at + 1, hidden, start, tools, tally);
     }
 }
 
 /// Decides the class at a place, and answers it by the hidden values where it is open.
-fn decide_next(classes: &Classes, place: u32, hidden: &Vector, start: Start, tools: &mut Tools)
+fn decide_next(
+    classes: &Classes,
+    place: u32,
+    hidden: &Vector,
+    start: Start,
+    tools: &mut Tools,
+    tally: &mut Tally,
+)
     requires low { 1 ≤ place }
     requires high { place ≤ length classes.now.classes }
     requires hidden { length hidden.now ≡ increments classes.now.criteria.levels }
-    requires underway { IsUnderway classes.now.criteria.levels (length classes.now.classes) (place - 1) tools.old }
-    ensures { IsUnderway classes.now.criteria.levels (length classes.now.classes) place tools.new }
+    requires underway { IsUnderway classes.now.criteria (place - 1) tools.old }
+    ensures { IsUnderway classes.now.criteria place tools.new }
 {
     let model = classes.model();
+    let _count = classes.count();
     let pair = classes.class(place);
-    begin(&model, start, &mut tools.work);
-    let decision = decide(
-        &model,
-        &tools.snapshot.answers,
-        &tools.snapshot.point,
-        &pair,
-        &mut tools.work,
-    );
+    let rows = tools.work.added();
+    let decision = decide_from(&model, &pair, start, tools);
+    tally.count(&decision, tools.work.added() != rows);
     if let Decision::Undecided { plus, minus } = decision {
-        let side = side_of(&model, hidden, &pair);
+        let side = model.ranking(hidden, &pair);
         tools.snapshot.point = point_with(
             &model,
             &tools.snapshot.answers,
@@ -91,35 +108,39 @@ fn decide_next(classes: &Classes, place: u32, hidden: &Vector, start: Start, too
     }
 }
 
-/// Leaves the dictionary, or loads it anew.
-fn begin(model: &Model, start: Start, work: &mut Dictionary)
-    requires { increments model.now.levels ≤ work.old.room_columns }
-    ensures { KeepsRoom work.old work.new }
+/// What the answers say of the pair.
+fn decide_from(model: &Model, pair: &Pair, start: Start, tools: &mut Tools) -> Decision
+    requires reserved { IsReserved model.now tools.old }
+    requires few { length tools.old.snapshot.answers.answers ≤ class_count model.now.levels model.now.degree }
+    requires answers_fit { All (λ answer. IsFit model.now.levels answer.pair) tools.old.snapshot.answers.answers }
+    requires pair_fits { IsFit model.now.levels pair.now }
+    requires meets { MeetsAll model.now.levels tools.old.snapshot.answers.answers tools.old.snapshot.point }
+    ensures decision { IsDecision model.now.levels tools.old.snapshot.answers.answers pair.now result }
+    ensures snapshot { tools.new.snapshot ≡ tools.old.snapshot }
+    ensures room { KeepsRoom tools.old.work tools.new.work }
 {
-    match start {
-        Start::Warm => {}
-        Start::Cold => work.load(model.increments()),
+    if start == Start::Tools {
+        return tools.decide(model, pair);
     }
+    if start == Start::Cold {
+        tools.work.load(model.increments());
+    }
+    let snapshot = &tools.snapshot;
+    decide(
+        model,
+        &snapshot.answers,
+        &snapshot.point,
+        pair,
+        &mut tools.work,
+    )
 }
 
-/// How the values rank the pair.
-fn side_of(model: &Model, values: &Vector, pair: &Pair) -> Side
-    requires len { length values.now ≡ increments model.now.levels }
-    requires fits { IsFit model.now.levels pair.now }
-{
-    match values.dot(&model.row(pair)) {
-        1.. => Side::Left,
-        0 => Side::Equal,
-        _ => Side::Right,
-    }
-}
-
-/// So many ones.
+/// A vector of `count` ones.
 fn ones(count: u8) -> Vector
     requires some { 1 ≤ count }
-    requires most { count ≤ 24 }
+    requires most { count ≤ MAX_INCREMENTS }
     ensures len { length result ≡ count }
     ensures positive { All (λ x. pos 1 ≤ℤ x) result }
 {
-    Vector::of(&[1; 24][..usize::from(count)])
+    Vector::of(&[1; MAX_INCREMENTS][..usize::from(count)])
 }

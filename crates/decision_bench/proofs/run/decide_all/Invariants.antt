@@ -1,7 +1,6 @@
 -- The classes so far are decided.
-use Rattle.std.proofs.Common.{length}
 use Rattle.decision_bench.specs.Run.{IsUnderway}
 use Rattle.decision_bench.proofs.run.decide_all.Given as goal
 
 abbrev pub invariant-loop-at : goal.invariant-loop-at
-invariant-loop-at l = IsUnderway l.classes.criteria.levels (length l.classes.classes) l.at l.tools
+invariant-loop-at l = IsUnderway l.classes.criteria l.at l.tools

@@ -9,16 +9,19 @@ use Rattle.decision_bench.proofs.run.decide_next.Goals as goal
 
 pub returns-in-Undecided : goal.returns-in-Undecided
 returns-in-Undecided c =
-    let answer : Answer = record { pair = c.class-pair.result; side = c.side_of-side.result } in
+    let answer : Answer = record { pair = c.class-pair.result; side = c.ranking-side.result } in
+    let before = c.args.tools.now.snapshot.answers.answers in
     record {
-      rooms = record {
-        answers = omega (arith, c.push.ensures.room, c.requires.underway.rooms.answers);
-        columns = omega (arith, c.point_with-tools.ensures.up.room.columns, c.decide-decision.ensures.up.room.columns, c.begin.ensures.columns, c.requires.underway.rooms.columns);
-        rows = omega (arith, c.point_with-tools.ensures.up.room.rows, c.decide-decision.ensures.up.room.rows, c.begin.ensures.rows, c.requires.underway.rooms.rows);
+      reserved = record {
+        snapshot = omega (arith, c.push.ensures.room, c.requires.underway.reserved.snapshot);
+        work = record {
+          columns = omega (arith, c.point_with-tools.ensures.up.room.columns, c.decide_from-decision.ensures.room.columns, c.requires.underway.reserved.work.columns);
+          rows = omega (arith, c.point_with-tools.ensures.up.room.rows, c.decide_from-decision.ensures.room.rows, c.requires.underway.reserved.work.rows);
+        };
       };
-      most = omega (arith, c.requires.underway.most, ap length c.push.ensures.answers, length-append c.args.tools.now.snapshot.answers.answers (answer ∷ []));
+      most = omega (arith, c.requires.underway.most, ap length c.push.ensures.answers, length-append before (answer ∷ []));
       fit = subst (λ (l : List Answer). All (λ a. IsFit c.args.classes.now.criteria.levels a.pair) l) (sym c.push.ensures.answers)
-          (All-push (λ a. IsFit c.args.classes.now.criteria.levels a.pair) c.args.tools.now.snapshot.answers.answers answer c.requires.underway.fit c.class-pair.ensures.class.fits);
+          (All-push (λ a. IsFit c.args.classes.now.criteria.levels a.pair) before answer c.requires.underway.fit c.class-pair.ensures.class.fits);
       met = subst (λ (l : List Answer). MeetsAll c.args.classes.now.criteria.levels l c.point_with-tools.result) (sym c.push.ensures.answers)
-          (subst (λ (l : List ℕ). MeetsAll l (c.args.tools.now.snapshot.answers.answers ++ (record { pair = c.class-pair.result; side = c.side_of-side.result }) ∷ []) c.point_with-tools.result) (ap (λ m. m.levels) c.model-model.ensures.value) c.point_with-tools.ensures.meets);
+          (subst (λ (l : List ℕ). MeetsAll l (before ++ answer ∷ []) c.point_with-tools.result) (ap (λ m. m.levels) c.model-model.ensures.value) c.point_with-tools.ensures.meets);
     }
