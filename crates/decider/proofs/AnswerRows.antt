@@ -186,9 +186,10 @@ meets_scaled levels answers factor values low positive meets = record {
 pub without_factor : (levels : List ℕ) (answers : List Answer) (pair : Pair) (side : Side) (vector given kept : List ℤ) → given ≡ vector → (factor : ℤ) × (pos 1 ≤ℤ factor) × (given ≡ times factor kept) → All (λ x. pos 1 ≤ℤ x) kept
     → MeetsAll levels answers vector → Ranks levels vector pair side → MeetsAll levels answers kept × Ranks levels kept pair side
 without_factor levels answers pair side vector given kept same (factor, low, multiple) positive meets ranks =
-    let e : vector ≡ times factor kept = sym same ∙ multiple in
-    (meets_scaled levels answers factor kept low positive (subst (MeetsAll levels answers) e meets),
-    ranks_scaled levels factor kept pair side low (subst (λ (v : List ℤ). Ranks levels v pair side) e ranks))
+    let e : vector ≡ times factor kept = sym same ∙ multiple in (
+      meets_scaled levels answers factor kept low positive (subst (MeetsAll levels answers) e meets),
+      ranks_scaled levels factor kept pair side low (subst (λ (v : List ℤ). Ranks levels v pair side) e ranks),
+    )
 
 -- ---- the rows of a dictionary that stands for answers, and of a ranking that is tried
 

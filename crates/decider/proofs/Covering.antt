@@ -38,14 +38,18 @@ covers_gains high low other_high other_low (inr h) increment = grind (arith, int
 gains_cover : (high low other_high other_low : ℕ) → GainsAtLeast high low other_high other_low → CoversAt high low other_high other_low
 gains_cover high low other_high other_low h =
     elim (cases_lt high other_high) [
-      inl a ↦ elim (cases_lt other_low other_high) [
-        inl b ↦ absurd (let e = h (max high other_low) in grind (arith, ints, nat_tests))
-        | inr b ↦ elim (cases_lt high low) [ inl d ↦ absurd (let e = h high in grind (arith, ints, nat_tests)) | inr d ↦ inr (b, d) ] ]
+      | inl a ↦ elim (cases_lt other_low other_high) [
+        | inl b ↦ absurd (let e = h (max high other_low) in grind (arith, ints, nat_tests))
+        | inr b ↦ elim (cases_lt high low) [ inl d ↦ absurd (let e = h high in grind (arith, ints, nat_tests)) | inr d ↦ inr (b, d) ]
+      ]
       | inr a ↦ elim (cases_lt other_low low) [
-        inr b ↦ inl (a, b)
+        | inr b ↦ inl (a, b)
         | inl b ↦ elim (cases_lt other_low other_high) [
-          inl d ↦ absurd (let e = h other_low in grind (arith, ints, nat_tests))
-          | inr d ↦ elim (cases_lt high low) [ inl f ↦ absurd (let e = h (max other_low high) in grind (arith, ints, nat_tests)) | inr f ↦ inr (d, f) ] ] ] ]
+          | inl d ↦ absurd (let e = h other_low in grind (arith, ints, nat_tests))
+          | inr d ↦ elim (cases_lt high low) [ inl f ↦ absurd (let e = h (max other_low high) in grind (arith, ints, nat_tests)) | inr f ↦ inr (d, f) ]
+        ]
+      ]
+    ]
 
 abbrev gain_on : ℕ → ℕ → ℕ → List ℤ
 gain_on n high low = minus (has_on n high) (has_on n low)
@@ -67,8 +71,8 @@ on_place n a b c d i lt =
     let at : (level : ℕ) → get_or (has_on n level) i (pos 0) ≡ lies_above level (1 + i) = λ level. get_or-map-range_with_len (lies_above level) 1 (n - 1) i (1 + i) (pos 0) lt refl in
     get_or-minus (gain_on n a b) (gain_on n c d) i (omega (arith, length-minus (has_on n a) (has_on n b), length-minus (has_on n c) (has_on n d), length-has_on n a, length-has_on n b, length-has_on n c, length-has_on n d))
     ∙ ap₂ (λ (x y : ℤ). x -ℤ y)
-      (get_or-minus (has_on n a) (has_on n b) i (length-has_on n a ∙ sym (length-has_on n b)) ∙ ap₂ (λ (x y : ℤ). x -ℤ y) (at a) (at b))
-      (get_or-minus (has_on n c) (has_on n d) i (length-has_on n c ∙ sym (length-has_on n d)) ∙ ap₂ (λ (x y : ℤ). x -ℤ y) (at c) (at d))
+    (get_or-minus (has_on n a) (has_on n b) i (length-has_on n a ∙ sym (length-has_on n b)) ∙ ap₂ (λ (x y : ℤ). x -ℤ y) (at a) (at b))
+    (get_or-minus (has_on n c) (has_on n d) i (length-has_on n c ∙ sym (length-has_on n d)) ∙ ap₂ (λ (x y : ℤ). x -ℤ y) (at c) (at d))
 
 length-on : (n a b c d : ℕ) → length (minus (gain_on n a b) (gain_on n c d)) ≡ n - 1
 length-on n a b c d =
@@ -84,8 +88,9 @@ gains_on n a b c d fits other all zero = none fits other
     none (inr h) (inl k) = grind (arith, ints, nat_tests)
     none (inr h) (inr k) = grind (arith, ints, nat_tests)
 gains_on n a b c d fits other all (suc i) = elim (cases_lt i (n - 1)) [
-    inl lt ↦ (let e = all i (pos 0) (omega (arith, length-on n a b c d, lt)) in let f = on_place n a b c d i lt in within i e f)
-    | inr ge ↦ past i ge fits other ]
+  | inl lt ↦ (let e = all i (pos 0) (omega (arith, length-on n a b c d, lt)) in let f = on_place n a b c d i lt in within i e f)
+  | inr ge ↦ past i ge fits other
+]
   where
     within : (i : ℕ) → pos 0 ≤ℤ get_or (minus (gain_on n a b) (gain_on n c d)) i (pos 0)
         → get_or (minus (gain_on n a b) (gain_on n c d)) i (pos 0) ≡ (lies_above a (1 + i) -ℤ lies_above b (1 + i)) -ℤ (lies_above c (1 + i) -ℤ lies_above d (1 + i))
@@ -93,8 +98,9 @@ gains_on n a b c d fits other all (suc i) = elim (cases_lt i (n - 1)) [
     within i e f =
         let one : 1 + i ≡ suc i = omega arith in
         let g : pos 0 ≤ℤ ((lies_above a (suc i) -ℤ lies_above b (suc i)) -ℤ (lies_above c (suc i) -ℤ lies_above d (suc i))) =
-          subst (λ (k : ℕ). pos 0 ≤ℤ ((lies_above a k -ℤ lies_above b k) -ℤ (lies_above c k -ℤ lies_above d k))) one (subst (λ (x : ℤ). pos 0 ≤ℤ x) f e) in
+        subst (λ (k : ℕ). pos 0 ≤ℤ ((lies_above a k -ℤ lies_above b k) -ℤ (lies_above c k -ℤ lies_above d k))) one (subst (λ (x : ℤ). pos 0 ≤ℤ x) f e) in
         omega (arith, ints, g)
+
     past : (i : ℕ) → n - 1 ≤ i → FitsAt n a b → FitsAt n c d → (lies_above c (suc i) -ℤ lies_above d (suc i)) ≤ℤ (lies_above a (suc i) -ℤ lies_above b (suc i))
     past i ge (inl h) (inl k) = grind (arith, ints, nat_tests)
     past i ge (inl h) (inr k) = grind (arith, ints, nat_tests)
@@ -113,7 +119,7 @@ gains-cons : (n a b c d : ℕ) (levels high low other_high other_low : List ℕ)
     → minus (gains (n ∷ levels) (a ∷ high) (b ∷ low)) (gains (n ∷ levels) (c ∷ other_high) (d ∷ other_low)) ≡ minus (gain_on n a b) (gain_on n c d) ++ minus (gains levels high low) (gains levels other_high other_low)
 gains-cons n a b c d levels high low other_high other_low =
     ap₂ minus (minus-append (has_on n a) (has levels high) (has_on n b) (has levels low) (length-has_on n a ∙ sym (length-has_on n b)))
-      (minus-append (has_on n c) (has levels other_high) (has_on n d) (has levels other_low) (length-has_on n c ∙ sym (length-has_on n d)))
+    (minus-append (has_on n c) (has levels other_high) (has_on n d) (has levels other_low) (length-has_on n c ∙ sym (length-has_on n d)))
     ∙ minus-append (gain_on n a b) (gains levels high low) (gain_on n c d) (gains levels other_high other_low) (length-gains_on n a b ∙ sym (length-gains_on n c d))
 
 -- two pairs of a model
@@ -144,8 +150,8 @@ covers_nonnegative (n ∷ levels) (a ∷ high) (b ∷ low) (c ∷ other_high) []
 covers_nonnegative (n ∷ levels) (a ∷ high) (b ∷ low) (c ∷ other_high) (d ∷ other_low) f covers =
     subst (All IsNonnegative) (sym (gains-cons n a b c d levels high low other_high other_low))
     (All-append IsNonnegative (minus (gain_on n a b) (gain_on n c d)) (minus (gains levels high low) (gains levels other_high other_low))
-      (nonnegative_map (lies_above a) (lies_above b) (lies_above c) (lies_above d) (range_with_len 1 (n - 1)) (covers_gains a b c d (covers 0 (omega arith))))
-      (covers_nonnegative levels high low other_high other_low (rest_fits n a b c d levels high low other_high other_low f) (λ k l. covers (suc k) (omega arith))))
+    (nonnegative_map (lies_above a) (lies_above b) (lies_above c) (lies_above d) (range_with_len 1 (n - 1)) (covers_gains a b c d (covers 0 (omega arith))))
+    (covers_nonnegative levels high low other_high other_low (rest_fits n a b c d levels high low other_high other_low f) (λ k l. covers (suc k) (omega arith))))
 
 covers_cons : (a b c d : ℕ) (high low other_high other_low : List ℕ) → CoversAt a b c d → Covers high low other_high other_low → Covers (a ∷ high) (b ∷ low) (c ∷ other_high) (d ∷ other_low)
 covers_cons a b c d high low other_high other_low here rest zero l = here
@@ -160,11 +166,11 @@ nonnegative_covers (n ∷ levels) (a ∷ high) (b ∷ low) [] other_low f all = 
 nonnegative_covers (n ∷ levels) (a ∷ high) (b ∷ low) (c ∷ other_high) [] f all = absurd (omega (arith, f.other_low_len))
 nonnegative_covers (n ∷ levels) (a ∷ high) (b ∷ low) (c ∷ other_high) (d ∷ other_low) f all =
     let both : All IsNonnegative (minus (gain_on n a b) (gain_on n c d) ++ minus (gains levels high low) (gains levels other_high other_low)) =
-      subst (All IsNonnegative) (gains-cons n a b c d levels high low other_high other_low) all in
+    subst (All IsNonnegative) (gains-cons n a b c d levels high low other_high other_low) all in
     covers_cons a b c d high low other_high other_low
-      (gains_cover a b c d (gains_on n a b c d (f.places 0 (omega arith)) (f.other_places 0 (omega arith)) (All-first IsNonnegative (minus (gain_on n a b) (gain_on n c d)) (minus (gains levels high low) (gains levels other_high other_low)) both)))
-      (nonnegative_covers levels high low other_high other_low (rest_fits n a b c d levels high low other_high other_low f)
-        (All-later IsNonnegative (minus (gain_on n a b) (gain_on n c d)) (minus (gains levels high low) (gains levels other_high other_low)) both))
+    (gains_cover a b c d (gains_on n a b c d (f.places 0 (omega arith)) (f.other_places 0 (omega arith)) (All-first IsNonnegative (minus (gain_on n a b) (gain_on n c d)) (minus (gains levels high low) (gains levels other_high other_low)) both)))
+    (nonnegative_covers levels high low other_high other_low (rest_fits n a b c d levels high low other_high other_low f)
+    (All-later IsNonnegative (minus (gain_on n a b) (gain_on n c d)) (minus (gains levels high low) (gains levels other_high other_low)) both))
 
 -- ---- pairs
 

@@ -44,23 +44,34 @@ with_proves levels answers number answer pair verdict own low is fits pair_fits 
   cited = All-cons (IsThere answers) cite [] (low, omega (arith, low, slice_get_within answers (number - 1) answer is)) (All-nil (IsThere answers));
   weights = All-cons (λ (c : Cite). MayWeigh (cited_side answers c) c.weight) cite [] (subst (λ (s : Side). MayWeigh s (pos 1)) (sym side_is) (may answer.side)) (All-nil (λ (c : Cite). MayWeigh (cited_side answers c) c.weight));
   sums = λ place lt.
-    omega (arith, sums, ap (λ (row : List ℤ). entry row place) own_is, entry-minus (gain levels pair verdict) (gain levels answer.pair answer.side) place,
-      ap (λ (row : List ℤ). entry row place) (cited_gain-there levels answers cite answer is), one-mul (entry (gain levels pair verdict) place), one-mul (entry (cited_gain levels answers cite) place));
+      omega (
+        arith,
+        sums,
+        ap (λ (row : List ℤ). entry row place) own_is,
+        entry-minus (gain levels pair verdict) (gain levels answer.pair answer.side) place,
+        ap (λ (row : List ℤ). entry row place) (cited_gain-there levels answers cite answer is),
+        one-mul (entry (gain levels pair verdict) place),
+        one-mul (entry (cited_gain levels answers cite) place),
+      );
   strict = enough verdict s.verdict_strict (inr (0, cite, omega arith, refl, subst (λ (s : Side). IsStrict s (pos 1)) (sym side_is) (strict answer.side s.answer_strict)));
 }
   where
     cite : Cite
     cite = record { answer = number; weight = pos 1 }
+
     side_is : cited_side answers cite ≡ answer.side
     side_is = ap (λ o. option_map_or (λ (a : Answer). a.side) o Equal) is
+
     may : (side : Side) → MayWeigh side (pos 1)
     may Left = omega (arith, ints)
     may Right = omega (arith, ints)
     may Equal = tt
+
     strict : (side : Side) → (side ≡ Equal → ⊥) → IsStrict side (pos 1)
     strict Left other = omega (arith, ints)
     strict Right other = omega (arith, ints)
     strict Equal other = absurd (other refl)
+
     enough : (side : Side) → (side ≡ Equal → ⊥) → HasStrict answers (record { scale = pos 1; increments = own; answers = cite ∷ [] }) → IsStrictEnough answers (record { scale = pos 1; increments = own; answers = cite ∷ [] }) side
     enough Left other some = some
     enough Right other some = some
@@ -116,21 +127,24 @@ few_over (v ∷ values) [] a e f positive small nonnegative = absurd (omega (ari
 few_over (v ∷ values) (x ∷ g) [] e f positive small nonnegative = absurd (omega (arith, f))
 few_over (v ∷ values) (x ∷ g) (y ∷ a) e f positive small nonnegative =
     step (is_weight (x -ℤ y)) refl
-      (few_over values g a (omega arith) (omega arith) (All-tail (λ z. pos 1 ≤ℤ z) v values positive) (All-tail (λ z. unsigned_abs z ≤ 1) x g small) (All-tail (λ z. pos 0 ≤ℤ z) (x -ℤ y) (minus g a) nonnegative))
-      (sum_by-cons (λ (z : ℤ). cond (is_weight z) 1 0) (x -ℤ y) (minus g a))
+    (few_over values g a (omega arith) (omega arith) (All-tail (λ z. pos 1 ≤ℤ z) v values positive) (All-tail (λ z. unsigned_abs z ≤ 1) x g small) (All-tail (λ z. pos 0 ≤ℤ z) (x -ℤ y) (minus g a) nonnegative))
+    (sum_by-cons (λ (z : ℤ). cond (is_weight z) 1 0) (x -ℤ y) (minus g a))
   where
     short : count_by is_weight (minus g a) ≤ length g
     short = omega (arith, count_by-le-length is_weight (minus g a), length-minus g a, e, f)
+
     above : (z : ℤ) → is_weight z ≡ true → pos 0 ≤ℤ z → pos 1 ≤ℤ z
     above (pos zero) h k = absurd (true≢false (sym h))
     above (pos (suc n)) h k = omega (arith, ints)
     above (negsuc n) h k = absurd (omega (arith, ints))
+
     not_above : is_weight (x -ℤ y) ≡ true → (v *ℤ y) ≤ℤ pos 0
     not_above h =
         let d = above (x -ℤ y) h (All-head (λ z. pos 0 ≤ℤ z) (x -ℤ y) (minus g a) nonnegative) in
         let one = All-head (λ z. unsigned_abs z ≤ 1) x g small in
         let low = All-head (λ z. pos 1 ≤ℤ z) v values positive in
         let f : y ≤ℤ pos 0 = omega (arith, ints) in let e : pos 0 ≤ℤ v = omega (arith, ints) in subst (λ (z : ℤ). z ≤ℤ pos 0) (*ℤ_comm y v) (mul_nonpos y v f e)
+
     step : (b : Bool) → is_weight (x -ℤ y) ≡ b → (count_by is_weight (minus g a) < length g) ⊎ (dot values a ≤ℤ pos 0)
         → count_by is_weight (minus (x ∷ g) (y ∷ a)) ≡ cond (is_weight (x -ℤ y)) 1 0 + count_by is_weight (minus g a)
         → (count_by is_weight (minus (x ∷ g) (y ∷ a)) < length (x ∷ g)) ⊎ (dot (v ∷ values) (y ∷ a) ≤ℤ pos 0)
@@ -146,12 +160,15 @@ few_with levels values answer pair verdict own fits pair_fits s row own_is vecto
   where
     g : List ℤ
     g = gain levels pair verdict
+
     a : List ℤ
     a = gain levels answer.pair answer.side
+
     positive : (side : Side) → (side ≡ Equal → ⊥) → Favours side (dot values a) → pos 1 ≤ℤ dot values a
     positive Left other h = h
     positive Right other h = h
     positive Equal other h = absurd (other refl)
+
     from : (count_by is_weight (minus g a) < length g) ⊎ (dot values a ≤ℤ pos 0) → count_by is_weight (own ++ pos 1 ∷ []) ≤ 24
     from (inl lt) = omega (arith, sum_by-append (λ (z : ℤ). cond (is_weight z) 1 0) own (pos 1 ∷ []), ap (count_by is_weight) own_is, lt, row.most)
     from (inr le) = absurd (let h = positive answer.side s.answer_strict (ranks_favours levels values answer.pair answer.side meets) in omega (arith, ints, h, le))

@@ -132,7 +132,14 @@ impl Tools {
             pair,
             &mut self.work,
         );
-        keep_found(model, &snapshot.answers, pair, verdict, &decision, &mut self.witnesses);
+        keep_found(
+            model,
+            &snapshot.answers,
+            pair,
+            verdict,
+            &decision,
+            &mut self.witnesses,
+        );
         decision
     }
 }

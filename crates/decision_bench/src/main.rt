@@ -61,7 +61,9 @@ fn measure<R: Print + CpuClock>(
         implied,
         undecided,
     } = tally;
-    print!(rt; "{degree:<6} {word:<5} {count:<7} {answers:<7} {one_answer:<10} {known:<5} {implied:<7} {undecided:<9} {loads:<5} {rows}")?;
+    print!(rt;
+        "{degree:<6} {word:<5} {count:<7} {answers:<7} {one_answer:<10} {known:<5} {implied:<7} {undecided:<9} {loads:<5} {rows}"
+    )?;
     report(rt, count.saturating_mul(rounds), took, timed)
 }
 

@@ -28,7 +28,9 @@ impl Tally {
     /// Counts a decision, with a solve or without one.
     pub fn count(&mut self, decision: &Decision, solved: bool) {
         match (decision, solved) {
-            (Decision::Implied { .. }, false) => self.one_answer = self.one_answer.saturating_add(1),
+            (Decision::Implied { .. }, false) => self.one_answer = self
+                .one_answer
+                .saturating_add(1),
             (Decision::Implied { .. }, true) => self.implied = self.implied.saturating_add(1),
             (Decision::Undecided { .. }, false) => self.known = self.known.saturating_add(1),
             (Decision::Undecided { .. }, true) => self.undecided = self.undecided.saturating_add(1),

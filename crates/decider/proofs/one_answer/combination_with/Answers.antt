@@ -18,11 +18,11 @@ pub returns-clause-proves : goal.returns-clause-proves
 returns-clause-proves c answers is =
     subst (λ cites. Proves c.args.model.now.levels answers (record { scale = pos 1; increments = c.excess-increments.result; answers = cites }) c.args.pair.now c.args.verdict) (sym c.in-Some.ensures.value)
     (with_proves c.args.model.now.levels answers c.args.number c.args.answer.now c.args.pair.now c.args.verdict c.excess-increments.result
-      c.requires.numbered is c.requires.answer_fits c.requires.pair_fits c.requires.suffices
-      (c.excess-increments.ensures.value ∙ ap₂ minus c.gain-gain.ensures c.gain.ensures))
+    c.requires.numbered is c.requires.answer_fits c.requires.pair_fits c.requires.suffices
+    (c.excess-increments.ensures.value ∙ ap₂ minus c.gain-gain.ensures c.gain.ensures))
 
 pub returns-clause-few : goal.returns-clause-few
 returns-clause-few c values vector meets =
     subst (λ cites. count_by is_weight (weights_of (record { scale = pos 1; increments = c.excess-increments.result; answers = cites })) ≤ 24) (sym c.in-Some.ensures.value)
     (few_with c.args.model.now.levels values c.args.answer.now c.args.pair.now c.args.verdict c.excess-increments.result c.requires.answer_fits c.requires.pair_fits c.requires.suffices
-      (subst IsRow c.gain-gain.ensures c.excess-increments.ensures.row) (c.excess-increments.ensures.value ∙ ap₂ minus c.gain-gain.ensures c.gain.ensures) vector meets)
+    (subst IsRow c.gain-gain.ensures c.excess-increments.ensures.row) (c.excess-increments.ensures.value ∙ ap₂ minus c.gain-gain.ensures c.gain.ensures) vector meets)

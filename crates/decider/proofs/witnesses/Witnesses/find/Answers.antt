@@ -18,6 +18,6 @@ first_meeting-requires-clause-row c = ap length c.gain-gain.ensures ∙ length-g
 pub returns : goal.returns
 returns c =
     some_weaker (λ v. MeetsAll c.args.model.now.levels c.args.answers.now.answers v × (pos 0 <ℤ dot v c.gain-gain.result) × IsCoprime v)
-      (λ v. MeetsAll c.args.model.now.levels c.args.answers.now.answers v × Ranks c.args.model.now.levels v c.args.pair.now c.args.side × IsCoprime v)
-      (λ v h. (h.0, gaining_ranks c.args.model.now.levels v c.gain-gain.result c.args.pair.now c.args.side c.requires.strict c.gain-gain.ensures h.1, h.2))
-      c.first_meeting.result c.first_meeting.ensures
+    (λ v. MeetsAll c.args.model.now.levels c.args.answers.now.answers v × Ranks c.args.model.now.levels v c.args.pair.now c.args.side × IsCoprime v)
+    (λ v h. (h.0, gaining_ranks c.args.model.now.levels v c.gain-gain.result c.args.pair.now c.args.side c.requires.strict c.gain-gain.ensures h.1, h.2))
+    c.first_meeting.result c.first_meeting.ensures

@@ -17,20 +17,26 @@ module _ (c : After-len) where
   unfolding witness
   is_witness =
       witness_all c.self.inside.model.levels c.self.inside.answers.answers witness
-        (subst (λ (v : WitnessesView). IsValueVector v.levels c.args.vector.now) (sym c.self.view_is) c.requires.vector) c.requires.coprime
-        (subst (λ (v : WitnessesView). All (Meets v.levels c.args.vector.now) v.answers.answers) (sym c.self.view_is) c.requires.meets) c.len.ensures.value
+      (subst (λ (v : WitnessesView). IsValueVector v.levels c.args.vector.now) (sym c.self.view_is) c.requires.vector) c.requires.coprime
+      (subst (λ (v : WitnessesView). All (Meets v.levels c.args.vector.now) v.answers.answers) (sym c.self.view_is) c.requires.meets) c.len.ensures.value
 
 pub invariant_of-self : goal.invariant_of-self
 unfolding witness
 invariant_of-self c =
-    let at = (goal.at.invariant_of-self c).After-len in
-    (subst (All (IsWitness c.self.inside.model.levels c.self.inside.answers.answers)) (sym c.push_reserved.ensures.items)
-      (All-push (IsWitness c.self.inside.model.levels c.self.inside.answers.answers) c.self.inside.kept.items (record { vector = c.args.vector.now; met = c.len.result }) c.self.invariant.0 (is_witness at)),
-    omega arith, omega arith, c.self.invariant.3)
+    let at = (goal.at.invariant_of-self c).After-len in (
+      subst (All (IsWitness c.self.inside.model.levels c.self.inside.answers.answers)) (sym c.push_reserved.ensures.items)
+          (All-push (IsWitness c.self.inside.model.levels c.self.inside.answers.answers) c.self.inside.kept.items (record { vector = c.args.vector.now; met = c.len.result }) c.self.invariant.0 (is_witness at)),
+      omega arith,
+      omega arith,
+      c.self.invariant.3,
+    )
 
 pub invariant_of-self-else-len-lt-MAX_WITNESSES : goal.invariant_of-self-else-len-lt-MAX_WITNESSES
 unfolding witness
 invariant_of-self-else-len-lt-MAX_WITNESSES c =
-    let at = (goal.at.invariant_of-self-else-len-lt-MAX_WITNESSES c).After-len in
-    (All-set (IsWitness c.self.inside.model.levels c.self.inside.answers.answers) c.self.inside.kept.items c.self.inside.next (record { vector = c.args.vector.now; met = c.len.result }) (is_witness at) c.self.invariant.0,
-    omega arith, omega arith, omega arith)
+    let at = (goal.at.invariant_of-self-else-len-lt-MAX_WITNESSES c).After-len in (
+      All-set (IsWitness c.self.inside.model.levels c.self.inside.answers.answers) c.self.inside.kept.items c.self.inside.next (record { vector = c.args.vector.now; met = c.len.result }) (is_witness at) c.self.invariant.0,
+      omega arith,
+      omega arith,
+      omega arith,
+    )
