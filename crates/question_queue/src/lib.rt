@@ -9,13 +9,13 @@
 //! far each search has come, and `mark_ranked_in` and `mark_asked_in` state what a mark costs.
 #![tactic(auto)]
 
+mod marks;
+mod pool;
+mod search;
+mod steps;
+
 pub use marks::{Kept, Mark};
 pub use pool::Pool;
 /// The one error: out of memory.
 pub use std::alloc::AllocError as NoMemory;
 pub use steps::Steps;
-
-mod marks;
-mod pool;
-mod search;
-mod steps;
