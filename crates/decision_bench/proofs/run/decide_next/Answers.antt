@@ -27,7 +27,7 @@ returns-in-Undecided c =
       most = omega (arith, c.requires.underway.most, count, ap length c.push.ensures.answers, length-append before (answer ∷ []));
       fit = subst (λ (l : List Answer). All (λ a. IsFit c.args.classes.now.criteria.levels a.pair) l) (sym c.push.ensures.answers)
           (All-push (λ a. IsFit c.args.classes.now.criteria.levels a.pair) before answer
-            (subst (λ (s : Snapshot). All (λ a. IsFit c.args.classes.now.criteria.levels a.pair) s.answers.answers) (sym kept) c.requires.underway.fit) c.class-pair.ensures.class.fits);
+          (subst (λ (s : Snapshot). All (λ a. IsFit c.args.classes.now.criteria.levels a.pair) s.answers.answers) (sym kept) c.requires.underway.fit) c.class-pair.ensures.class.fits);
       met = subst (λ (l : List Answer). MeetsAll c.args.classes.now.criteria.levels l c.point_with-tools.result) (sym c.push.ensures.answers)
           (subst (λ (l : List ℕ). MeetsAll l (before ++ answer ∷ []) c.point_with-tools.result) (ap (λ m. m.levels) c.model-model.ensures.value) c.point_with-tools.ensures.meets);
     }
