@@ -612,7 +612,7 @@ fn decide_open(rt: HostRuntime) -> Result<(), Fail> {
     };
     assert!(rt; opens(&model, answers, &pair, &plus, &minus));
     let equal = point_with(&model, answers, &plus, &minus, &pair, Side::Equal, work);
-    assert_eq!(rt; ranking(&model, &equal, &pair), Side::Equal);
+    assert_eq!(rt; model.ranking(&equal, &pair), Side::Equal);
     Ok(())
 }
 
@@ -638,7 +638,7 @@ fn told_by(rt: &impl Abort, alloc: Global, model: &Model, point: &Vector) -> Res
     for number in 0..40_u8 {
         let pair = numbered_pair(rt, number, 2 + number % 3, 2 + number / 3 % 3);
         assert!(rt; model.fits(&pair));
-        let side = ranking(model, point, &pair);
+        let side = model.ranking(point, &pair);
         answered(rt, model, &mut answers, pair, side)?;
     }
     Ok(answers)

@@ -2,8 +2,9 @@
 use crate::decision::Decision;
 use crate::decisions::decide;
 use crate::point::point_with;
-use crate::tools::Tools;
+use answer_rows::Answers;
 use criteria_model::{Answer, Model, Pair, Side, Tuple, Vector};
+use fraction_free::Dictionary;
 use std::test::Fail;
 use witness_check::meets;
 
@@ -20,10 +21,9 @@ fn warm_dictionary(rt: HostRuntime) -> Result<(), Fail> {
         right: Tuple::of(&[1, 0, 2]),
     };
     assert_eq!(rt; model.increments(), 3);
-    assert_eq!(rt; model.class_count(), 6);
     assert!(rt; model.fits(&first) && model.fits(&second));
-    let Tools { snapshot, mut work } = Tools::reserve(rt.alloc(), &model)?;
-    let mut answers = snapshot.answers;
+    let mut answers = Answers::reserve(rt.alloc(), 1)?;
+    let mut work = Dictionary::reserve(rt.alloc(), 3, 4)?;
     let ones = Vector::of(&[1, 1, 1]);
     assert!(rt; meets(&model, &answers, &ones));
     let decision = decide(&model, &answers, &ones, &first, &mut work);
