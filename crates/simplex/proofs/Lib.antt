@@ -14,3 +14,4 @@ pub mod Slacks
 pub mod Clashes
 pub mod FewWeights
 pub mod ClashParts
+pub mod Raises

@@ -4,3 +4,4 @@ pub mod Choice
 pub mod Point
 pub mod Equation
 pub mod Results
+pub mod Raise

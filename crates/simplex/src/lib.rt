@@ -14,6 +14,7 @@ mod clash;
 mod divisor;
 mod found;
 mod point;
+mod raise;
 mod row_weights;
 mod solver;
 #[cfg(test)]
@@ -22,5 +23,6 @@ mod tests;
 pub use divisor::{common_divisor, divided};
 pub use found::{Clash, Found};
 pub use point::reduced;
+pub use raise::{settle, solve_last};
 pub use row_weights::{MAX_ROW_WEIGHTS, RowWeight, RowWeights};
 pub use solver::solve;
