@@ -201,3 +201,6 @@ fn keep_found(
         }
     }
 }
+
+#[cfg(test)]
+mod tests;
