@@ -7,7 +7,7 @@ use Rattle.std.proofs.lemmas.List.{length-replicate}
 use Rattle.std.specs.List.{position_or_len}
 use Rattle.question_queue.specs.declared.marks.Mark.{Mark}
 use Rattle.question_queue.specs.declared.marks.Kept.{Kept}
-use Rattle.question_queue.specs.Pools.{Pooled, ChangesMark, unmarked, is_unranked, is_due, is_job, is_given, KeepsPlaces}
+use Rattle.question_queue.specs.Pools.{Pooled, ChangesMark, new_mark, is_unranked, is_due, is_job, is_given, KeepsPlaces}
 use Rattle.question_queue.specs.Pools.{as_ranked, as_unranked, as_asked, as_given, with_mark, given_out}
 use Rattle.question_queue.proofs.Places.{either, set_fails, set_same, set_passes, set_past, first_le, item_at, first_within}
 
@@ -21,14 +21,15 @@ inside [] i m e = absurd cc
 inside (x ∷ marks) zero m e = omega arith
 inside (x ∷ marks) (suc i) m e = let l = inside marks i m e in omega arith
 
-none_first : (count : ℕ) → (0 ≡ position_or_len is_unranked (replicate count unmarked)) × (0 ≡ position_or_len is_due (replicate count unmarked))
+none_first : (count : ℕ) → (0 ≡ position_or_len is_unranked (replicate count new_mark)) × (0 ≡ position_or_len is_due (replicate count new_mark))
 none_first zero = (refl, refl)
 none_first (suc count) = (refl, refl)
 
-pub new_keeps : (count : ℕ) (marks : List Mark) (kept : List (Option Kept)) → marks ≡ replicate count unmarked → kept ≡ replicate count None → count < 2 ^ 32 → KeepsPlaces marks kept 0 0 0 0
+pub new_keeps : (count : ℕ) (marks : List Mark) (kept : List (Option Kept)) → marks ≡ replicate count new_mark → kept ≡ replicate count None
+    → count < 2 ^ 32 → KeepsPlaces marks kept 0 0 0 0
 new_keeps count marks kept m k few = record {
-  same = ap length k ∙ length-replicate count None ∙ sym (ap length m ∙ length-replicate count unmarked);
-  few = subst (λ n. n < 2 ^ 32) (sym (ap length m ∙ length-replicate count unmarked)) few;
+  same = ap length k ∙ length-replicate count None ∙ sym (ap length m ∙ length-replicate count new_mark);
+  few = subst (λ n. n < 2 ^ 32) (sym (ap length m ∙ length-replicate count new_mark)) few;
   first_unranked = (none_first count).0 ∙ sym (ap (position_or_len is_unranked) m);
   first_due = (none_first count).1 ∙ sym (ap (position_or_len is_due) m);
   no_job = omega arith;
@@ -94,7 +95,8 @@ unranked_keeps marks kept u d v j i m is at = record {
     due false e = ap (λ n. min n i) is.first_due ∙ sym (set_passes is_due marks i (as_unranked m) (inside marks i m at) (ap (λ b. not (false || b)) e))
 
 -- the first job at a version is given out
-pub given_keeps : (marks : List Mark) (kept : List (Option Kept)) (u d v j version i : ℕ) (m : Mark) → KeepsPlaces marks kept u d v j → slice_get marks i ≡ Some m → i ≡ position_or_len (is_job version) marks
+pub given_keeps : (marks : List Mark) (kept : List (Option Kept)) (u d v j version i : ℕ) (m : Mark) → KeepsPlaces marks kept u d v j
+    → slice_get marks i ≡ Some m → i ≡ position_or_len (is_job version) marks
     → KeepsPlaces (set marks i (as_given version m)) kept u d version (i + 1)
 given_keeps marks kept u d v j version i m is at first = record {
   same = length-kept marks kept i (as_given version m) is.same;
@@ -108,7 +110,8 @@ given_keeps marks kept u d v j version i m is at first = record {
     given_fails true b e = refl
     given_fails false b e = ap not e
 
-pub no_job_keeps : (marks : List Mark) (kept : List (Option Kept)) (u d v j version i : ℕ) → KeepsPlaces marks kept u d v j → i ≡ position_or_len (is_job version) marks → KeepsPlaces marks kept u d version i
+pub no_job_keeps : (marks : List Mark) (kept : List (Option Kept)) (u d v j version i : ℕ) → KeepsPlaces marks kept u d v j
+    → i ≡ position_or_len (is_job version) marks → KeepsPlaces marks kept u d version i
 no_job_keeps marks kept u d v j version i is first = record { same = is.same; few = is.few; first_unranked = is.first_unranked; first_due = is.first_due; no_job = omega arith }
 
 -- a job isn't ranked, so none stands before the first class that isn't
@@ -123,7 +126,8 @@ before_jobs marks version = first_le is_unranked (is_job version) marks (λ m e.
 pub with_mark_is : (change : Mark → Mark) (marks : List Mark) (i : ℕ) (m : Mark) → slice_get marks i ≡ Some m → set marks i (change m) ≡ with_mark change marks i
 with_mark_is change marks i m at = ap (λ o. option_map_or (λ mark. set marks i (change mark)) o marks) (sym at)
 
-pub given_out_is : (version : ℕ) (marks : List Mark) (i : ℕ) (m : Mark) → i ≡ position_or_len (is_job version) marks → slice_get marks i ≡ Some m → set marks i (as_given version m) ≡ given_out version marks
+pub given_out_is : (version : ℕ) (marks : List Mark) (i : ℕ) (m : Mark) → i ≡ position_or_len (is_job version) marks → slice_get marks i ≡ Some m
+    → set marks i (as_given version m) ≡ given_out version marks
 given_out_is version marks i m first at =
     with_mark_is (as_given version) marks i m at
     ∙ ap (λ k. with_mark (as_given version) marks k) first
@@ -145,14 +149,16 @@ unranked_to marks kept u d v j i m u' d' j' is at e f h = let k = unranked_keeps
 }
 
 -- the mark of a class of the pool
-pub at_place : (old : Pooled) (marks : List Mark) (kept : List (Option Kept)) (place : ℕ) (m : Mark) → record { marks = marks; kept = kept } ≡ old → 1 ≤ place → place ≤ length old.marks
+pub at_place : (old : Pooled) (marks : List Mark) (kept : List (Option Kept)) (place : ℕ) (m : Mark) → record { marks = marks; kept = kept } ≡ old
+    → 1 ≤ place → place ≤ length old.marks
     → m ≡ get_or marks (place - 1) m → slice_get marks (place - 1) ≡ Some m
 at_place old marks kept place m view low high is =
     let size : length marks ≡ length old.marks = ap (λ (v : Pooled). length v.marks) view in
     item_at marks (place - 1) m (omega arith) ∙ ap Some (sym is)
 
 -- a mark that is written over changes the pool at its place
-pub changes : (change : Mark → Mark) (old : Pooled) (marks : List Mark) (kept : List (Option Kept)) (place : ℕ) (m : Mark) → record { marks = marks; kept = kept } ≡ old → slice_get marks (place - 1) ≡ Some m
+pub changes : (change : Mark → Mark) (old : Pooled) (marks : List Mark) (kept : List (Option Kept)) (place : ℕ) (m : Mark)
+    → record { marks = marks; kept = kept } ≡ old → slice_get marks (place - 1) ≡ Some m
     → ChangesMark change old (record { marks = set marks (place - 1) (change m); kept = kept }) place
 changes change old marks kept place m view at = record {
   marks = with_mark_is change marks (place - 1) m at ∙ ap (λ (v : Pooled). with_mark change v.marks (place - 1)) view;
@@ -183,7 +189,8 @@ mapped_more f xs ys i d y so_far l is =
     ∙ ap (λ k. map f (take k xs) ++ drop k xs) e
 
 -- a job's place is one of the list, where it isn't past the end
-pub job_within : (pool : Pooled) (marks : List Mark) (kept : List (Option Kept)) (version i len : ℕ) → record { marks = marks; kept = kept } ≡ pool → i ≡ position_or_len (is_job version) pool.marks
+pub job_within : (pool : Pooled) (marks : List Mark) (kept : List (Option Kept)) (version i len : ℕ) → record { marks = marks; kept = kept } ≡ pool
+    → i ≡ position_or_len (is_job version) pool.marks
     → len ≡ length marks → i ≢ len → (i ≡ position_or_len (is_job version) marks) × (i < length marks)
 job_within pool marks kept version i len view first size other =
     let here = first ∙ ap (λ (v : Pooled). position_or_len (is_job version) v.marks) (sym view) in

@@ -13,12 +13,12 @@ pub record Pooled : Type 0 where
   pub kept : List (Option Kept)
 
 -- a class that is not ranked, not asked and was never given out
-abbrev pub unmarked : Mark
-unmarked = record { ranked = false; asked = false; given = None }
+abbrev pub new_mark : Mark
+new_mark = record { ranked = false; asked = false; given = None }
 
 -- so many such classes, without vectors
 abbrev pub new_pool : ℕ → Pooled
-new_pool count = record { marks = replicate count unmarked; kept = replicate count None }
+new_pool count = record { marks = replicate count new_mark; kept = replicate count None }
 
 -- last given out at the version
 abbrev pub is_given : ℕ → Option ℕ → Bool

@@ -9,6 +9,7 @@
 //! far each search has come, and `mark_ranked_in` and `mark_asked_in` state what a mark costs.
 #![tactic(auto)]
 
+pub mod laws;
 mod marks;
 mod pool;
 mod search;
