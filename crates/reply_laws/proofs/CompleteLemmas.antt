@@ -1,17 +1,15 @@
 -- No class is open exactly where the answers rank every pair.
-use Rattle.std.proofs.Common.{◌≡◌, ◌⊎◌, ◌↔◌, ℕ, ◌+◌, ◌<◌, ◌≤◌, ◌==◌, max, Bool, true, false, cond, not, List, [], ◌∷◌, length, map, get_or, Some, ℤ, ap, refl, sym, subst, ◌∙◌, inl, inr, arith}
+use Rattle.std.proofs.Common.{◌≡◌, ℕ, ◌<◌, ◌≤◌, ◌==◌, max, Bool, true, false, cond, not, List, [], ◌∷◌, length, get_or, Some, ℤ, ap, refl, sym, subst, ◌∙◌, inl, inr, arith}
 use Rattle.std.specs.List.{zip}
 use Rattle.std.proofs.lemmas.Bool.{eqb-true, eq-eqb}
-use Rattle.std.proofs.lemmas.Bool.Decides.{nat_tests}
 use Rattle.std.proofs.lemmas.Int.{ints}
 use Rattle.std.proofs.lemmas.List.Sums.{sum_by-cons}
 use Rattle.row_laws.specs.Rows.{dot}
 use Rattle.criteria_model.specs.declared.pairs.Pair.{Pair}
-use Rattle.criteria_model.specs.declared.pairs.Answer.{Answer}
 use Rattle.criteria_model.specs.declared.pairs.Side.{Side}
 use Rattle.criteria_model.specs.declared.pairs.Side.TheVariants.{Left, Right, Equal}
 use Rattle.criteria_model.specs.Alternatives.{IsAlternative, filled, degree}
-use Rattle.criteria_model.specs.Pairs.{FitsAt, IsFit}
+use Rattle.criteria_model.specs.Pairs.{FitsAt}
 use Rattle.criteria_model.specs.Classes.{IsClass}
 use Rattle.criteria_model.specs.Worth.{worth}
 use Rattle.criteria_model.specs.Answers.{Ranks, IsOpen}

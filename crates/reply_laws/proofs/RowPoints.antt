@@ -5,7 +5,7 @@ use Rattle.std.proofs.Math.IntN.{*ℤ_comm}
 use Rattle.std.proofs.lemmas.Int.{ints}
 use Rattle.std.proofs.lemmas.Bool.{lt-ltb, le-ltb, cond-true, cond-false, cases_lt}
 use Rattle.std.proofs.lemmas.List.FromFn.{fill_by_all, get_or-map-range_with_len, length-map-range_with_len}
-use Rattle.row_laws.proofs.Integers.{sums, mul-add, add-mul, sub-mul, mul-sub, mul-zero, zero-mul, one-mul}
+use Rattle.row_laws.proofs.Integers.{sums, mul-add, add-mul, sub-mul, mul-sub, zero-mul, one-mul}
 use Rattle.row_laws.proofs.Integers.{mul-one}
 use Rattle.row_laws.specs.Rows.{dot}
 use Rattle.least_index.specs.Dictionary.{RationalDictionary, sum_below, term, right_side, IsSolution}

@@ -1,5 +1,5 @@
 -- A reply at least, where each class is ranked or open.
-use Rattle.std.proofs.Common.{◌≡◌, ◌⊎◌, ℕ, zero, suc, ◌+◌, ◌-◌, ◌*◌, ◌<◌, ◌≤◌, ◌==◌, Bool, true, false, List, [], ◌∷◌, length, Option, Some, None, slice_get, IsSomeAnd, Contains, pos, refl, ap, sym, subst, ◌∙◌, inl, inr, arith}
+use Rattle.std.proofs.Common.{◌≡◌, ◌⊎◌, ℕ, zero, suc, ◌+◌, ◌-◌, ◌<◌, ◌≤◌, ◌==◌, Bool, true, false, List, [], ◌∷◌, length, Option, Some, None, slice_get, IsSomeAnd, Contains, pos, refl, ap, sym, subst, ◌∙◌, inl, inr, arith}
 use Rattle.std.specs.List.{list_any}
 use Rattle.std.specs.Option.{option_and_then}
 use Rattle.std.proofs.lemmas.Bool.{cases_lt}
@@ -33,6 +33,7 @@ use Rattle.survey_replies.specs.Outcomes.{Outcome}
 use Rattle.survey_replies.specs.Outcomes as outcome
 use Rattle.survey_replies.specs.Interview.{Interview, interview, answered, answered_question}
 use Rattle.survey_replies.specs.ReplyLaw.{IsFirst, IsOpenClass, HasOpenClass, IsUnaskedOpenClass, IsQuestion, AreSpent, IsNextReply, IsAnswerReply, IsValuesReply, IsWithdrawReply, IsReplyTo}
+use Rattle.survey_replies.proofs.JournalLemmas.{each_at}
 use Rattle.reply_laws.specs.Laws.{IsDecided}
 
 -- the answers rank each class or leave it open
@@ -194,11 +195,6 @@ of_commits (Withdraw desk answer ∷ later) = (refl, of_commits later)
 
 pub answered_count : (history : List Event) → length (answered history) ≡ commit_count (standing history)
 answered_count history = length-filter_map answered_question (standing history) (of_commits (standing history))
-
-pub each_at : {X : Type 0} (P : X → Type 0) (xs : List X) (k : ℕ) (x : X) → Each P xs → slice_get xs k ≡ Some x → P x
-each_at P [] k x each at = absurd (none-some x at)
-each_at P (y ∷ xs) zero x each at = subst P (same_Some y x at) each.0
-each_at P (y ∷ xs) (suc k) x each at = each_at P xs k x each.1 at
 
 unended_test : (history : List Event) (question : ℕ) → 1 ≤ question → question ≤ length (issued history)
     → Contains (open_questions history) question ⊎ (¬ Contains (open_questions history) question)

@@ -2,9 +2,7 @@
 use Rattle.std.proofs.Common.{◌≡◌, ◌⊎◌, ◌↔◌, ℕ, suc, ◌+◌, ◌-◌, ◌<◌, ◌≤◌, Bool, true, false, cond, ◌||◌, IsTrue, List, [], ◌∷◌, ◌++◌, length, All, Some, slice_get, IsSomeAnd, Option, ℤ, refl, ap, sym, subst, ◌∙◌, inl, inr, arith}
 use Rattle.std.specs.List.{count_by}
 use Rattle.std.proofs.lemmas.List.Sums.{sum_by-cons, count_by-le-length}
-use Rattle.std.proofs.lemmas.Option.{slice_get_within, slice_get-map, get_or_from_slice_get}
-use Rattle.std.specs.Option.{option_map}
-use Rattle.std.proofs.lemmas.List.{length-map}
+use Rattle.std.proofs.lemmas.Option.{slice_get_within, get_or_from_slice_get}
 use Rattle.answer_rows.specs.Room.{AnswersWithRoom}
 use Rattle.criteria_model.specs.declared.pairs.Answer.{Answer}
 use Rattle.criteria_model.specs.declared.pairs.Pair.{Pair}
@@ -19,13 +17,13 @@ use Rattle.pair_enumeration.specs.Listed.{Listed}
 use Rattle.survey_core.specs.declared.events.Event.{Event}
 use Rattle.survey_core.specs.declared.marks.Mark.{Mark}
 use Rattle.survey_core.specs.declared.marks.Question.{Question}
-use Rattle.survey_core.specs.Histories.{issued, place_of, class_at, committed, is_unended, open_questions, IsOpenQuestion, is_eliminated, is_ranked}
+use Rattle.survey_core.specs.Histories.{issued, class_at, committed, is_unended, open_questions, IsOpenQuestion, is_eliminated, is_ranked}
 use Rattle.survey_core.specs.Legal.{IsPlace, AreEarlierAsked, OpensClass}
-use Rattle.survey_core.specs.Marked.{Table, is_ranking, is_elimination, is_open, is_ranked_mark, is_open_mark, is_answer_up_to, AreSettled, IsMark, IsQuestionMark, KeepsHistory}
+use Rattle.survey_core.specs.Marked.{Table, is_ranking, is_elimination, is_open, is_ranked_mark, is_open_mark, is_answer_up_to, AreSettled, IsMark, KeepsHistory}
 use Rattle.survey_core.proofs.ListSteps.{slice_get_inside, Each, Each-append, Each-All, All-Each, Each-front, Each-back, some_at, at_some, filtered_range}
 use Rattle.survey_core.proofs.SoundLemmas.{IsSound, sound_history}
 use Rattle.survey_core.proofs.TableLemmas.{count_less}
-use Rattle.row_laws.proofs.ItemLemmas.{item_of, item_found}
+use Rattle.row_laws.proofs.ItemLemmas.{item_found}
 use Rattle.survey_core.proofs.ReadLemmas.{mark_at, question_at, issued_len, asks_at, mark_eliminated, mark_ranked, question_unended, open_count, contains_filtered, answers_fit}
 
 false_true : false ≡ true → ⊥

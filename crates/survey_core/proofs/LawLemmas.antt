@@ -1,24 +1,18 @@
 -- The answers of a legal history: the last point meets them.
-use Rattle.std.proofs.Common.{◌≡◌, ◌⊎◌, ℕ, ◌+◌, ◌-◌, ◌==◌, Bool, true, false, ◌||◌, List, [], ◌∷◌, length, take, get_or, replicate, Option, Some, ℤ, pos, ◌≤ℤ◌, refl, ap, sym, subst, ◌∙◌, inl, inr, arith}
+use Rattle.std.proofs.Common.{◌≡◌, ℕ, ◌+◌, List, [], ◌∷◌, length, replicate, ℤ, pos, ◌≤ℤ◌, refl, subst, arith}
 use Rattle.std.proofs.lemmas.List.{length-replicate}
-use Rattle.std.specs.Option.{option_map_or}
-use Rattle.std.specs.List.{fold, filter_map, list_any}
-use Rattle.std.proofs.lemmas.Bool.{eqb-true}
-use Rattle.std.proofs.lemmas.Option.{same_Some, get_or_from_slice_get, slice_get_within}
-use Rattle.std.proofs.lemmas.List.Elements.{All-take, All-replicate}
+use Rattle.std.specs.List.{fold, filter_map}
+use Rattle.std.proofs.lemmas.List.Elements.{All-replicate}
 use Rattle.std.proofs.lemmas.Int.{ints}
-use Rattle.criteria_model.specs.declared.pairs.Pair.{Pair}
 use Rattle.criteria_model.specs.declared.pairs.Answer.{Answer}
-use Rattle.criteria_model.specs.declared.pairs.Side.{Side}
 use Rattle.criteria_model.specs.Worth.{increments}
-use Rattle.criteria_model.specs.Answers.{Ranks, Meets, MeetsAll, IsRanked}
+use Rattle.criteria_model.specs.Answers.{MeetsAll}
 use Rattle.pair_enumeration.specs.Listed.{Listed}
 use Rattle.survey_core.specs.declared.events.Event.{Event}
 use Rattle.survey_core.specs.declared.events.Event.TheVariants.{Eliminate, Issue, Commit, Close, Withdraw}
-use Rattle.survey_core.specs.Kinds.{eliminates}
-use Rattle.survey_core.specs.Histories.{standing, issued, place_of, class_at, committed, commits_class, is_eliminated, is_committed}
+use Rattle.survey_core.specs.Histories.{standing, issued, committed}
 use Rattle.survey_core.specs.Laws.{point_of, LastPointMeets}
-use Rattle.survey_core.specs.Marked.{greatest_cited, numbered}
+use Rattle.survey_core.specs.Marked.{numbered}
 use Rattle.survey_core.proofs.ListSteps.{Each, take_whole}
 use Rattle.survey_core.proofs.StandingLemmas.{commit_count}
 use Rattle.survey_core.proofs.SoundLemmas.{IsSoundAt, IsSound, sound_history, answers_count}

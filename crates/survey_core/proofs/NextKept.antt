@@ -2,7 +2,7 @@
 use Rattle.std.proofs.Common.{◌≡◌, ℕ, ◌+◌, ◌-◌, ◌*◌, ◌<◌, ◌≤◌, ◌==◌, Bool, true, false, cond, not, ◌||◌, List, [], ◌∷◌, ◌++◌, length, take, map, Option, Some, slice_get, slice_set, ℤ, append-nil, length-append, length-take, refl, ap, sym, subst, ◌∙◌, inl, inr, arith}
 use Rattle.std.specs.Option.{option_map_or, option_and_then, option_map}
 use Rattle.std.specs.List.{list_any, count_by, cons_option}
-use Rattle.std.proofs.lemmas.Bool.{cases_lt, eq-eqb, eqb-true}
+use Rattle.std.proofs.lemmas.Bool.{eq-eqb, eqb-true}
 use Rattle.std.proofs.Math.Nat.{add-mul, mul-add, mul_comm}
 use Rattle.std.proofs.lemmas.List.{length-set, take-append-le, map-append}
 use Rattle.std.proofs.lemmas.List.Sums.{sum_by_push, count_by-le-length}
@@ -36,7 +36,7 @@ use Rattle.survey_core.proofs.SoundLemmas.{IsSoundAt, IsSound, sound_history, co
 use Rattle.survey_core.proofs.TableLemmas.{count_set, count_less, one_if}
 use Rattle.survey_core.proofs.KeptLemmas.{ranked_at, found_at, unended_at, place_at, or_either, or_left, or_right}
 use Rattle.survey_core.proofs.ReadLemmas.{map_some, mark_at, asks_at, issued_len}
-use Rattle.row_laws.proofs.ItemLemmas.{item_of, item_found, item_positive, item_within}
+use Rattle.row_laws.proofs.ItemLemmas.{item_of, item_found, item_positive}
 use Rattle.survey_core.proofs.NextTables.{table_eliminate, table_issue, table_commit, table_close, table_withdraw}
 
 -- ---- legal histories

@@ -1,6 +1,6 @@
 -- The marks after one more event, kind by kind.
 use Rattle.std.proofs.Common.{◌≡◌, ◌≢◌, ℕ, ◌+◌, ◌-◌, ◌<◌, ◌≤◌, ◌==◌, min, nat_lt, nat_le, Bool, true, false, cond, ◌||◌, List, [], ◌∷◌, ◌++◌, length, map, Option, Some, slice_get, slice_set, ℤ, append-nil, length-append, refl, ap, sym, subst, ◌∙◌, inl, inr, arith}
-use Rattle.std.specs.Option.{option_map, option_map_or}
+use Rattle.std.specs.Option.{option_map_or}
 use Rattle.std.specs.List.{filter, flat_map, list_any, count_by}
 use Rattle.std.proofs.lemmas.Bool.{eq-eqb}
 use Rattle.std.proofs.lemmas.Bool.Decides.{nat_tests}
@@ -10,7 +10,7 @@ use Rattle.std.proofs.Math.Seq.{map-set_same}
 use Rattle.std.proofs.lemmas.List.Concat.{flat_map-cons}
 use Rattle.std.proofs.lemmas.List.Folds.{list_any-append}
 use Rattle.std.proofs.lemmas.List.Sums.{sum_by-cons}
-use Rattle.std.proofs.lemmas.Option.{slice_get_within, slice_get-map, get_or_from_slice_get}
+use Rattle.std.proofs.lemmas.Option.{slice_get-map, get_or_from_slice_get}
 use Rattle.std.proofs.lemmas.List.{length-map}
 use Rattle.criteria_model.specs.declared.pairs.Answer.{Answer}
 use Rattle.criteria_model.specs.declared.pairs.Side.{Side}
@@ -26,7 +26,7 @@ use Rattle.survey_core.specs.declared.marks.Mark.{Mark}
 use Rattle.survey_core.specs.declared.marks.Question.{Question}
 use Rattle.survey_core.specs.Histories.{issued, is_issued, place_of, committed, commits_class}
 use Rattle.survey_core.specs.Marked.{greatest_cited, Resting, resting, ranking_by, rankings, marked_rankings, ending_by, endings, marked_endings, Table, left_ranking, left_mark, left_ending, left_question, is_number_up_to, is_answer_up_to, IsMark, IsQuestionMark, IsTableOf}
-use Rattle.survey_core.proofs.ListSteps.{Each, Each-map, slice_get-push, slice_get-append, flat_map-filter}
+use Rattle.survey_core.proofs.ListSteps.{Each, Each-map, slice_get-push, flat_map-filter}
 use Rattle.survey_core.proofs.StandingLemmas.{standing-push, issued-push}
 use Rattle.survey_core.proofs.SoundLemmas.{IsSoundAt, IsSound, issued-same, resting-push, resting-withdraw}
 use Rattle.survey_core.proofs.TableLemmas.{set_cases, count_set, one_if}

@@ -17,7 +17,7 @@ use Rattle.survey_core.specs.declared.events.Event.{Event}
 use Rattle.survey_core.specs.declared.events.Event.TheVariants.{Eliminate, Issue, Commit, Close, Withdraw}
 use Rattle.survey_core.specs.Kinds.{issued_place}
 use Rattle.survey_core.specs.Histories.{standing, issued, is_issued, is_unended, place_of, class_at, class_of, answer_of, committed}
-use Rattle.survey_core.specs.Legal.{IsPlace, MayFollow, IsLegal}
+use Rattle.survey_core.specs.Legal.{IsPlace, IsLegal}
 use Rattle.survey_core.proofs.NamedParts.{MayEliminate, MayIssue, MayCommit, MayClose, MayWithdraw, HasParts, named}
 use Rattle.survey_core.specs.Marked.{greatest_cited, rests_on, Resting, numbered, resting}
 use Rattle.survey_core.proofs.ListSteps.{Each, Each-append, Each-map, Each-filter, All-Each, slice_get-take, slice_get-append, slice_get-push, slice_get-last, take-take, filter_map-same, some_and, and_then_some, any_at, filtered_range, take_whole, slice_get_inside, take_next}

@@ -1,6 +1,6 @@
 -- What a list of events comes to: the standing events, the committed answers, the issued and the open questions.
 -- Questions are numbered by their Issues, from 1 on, and classes have their places in the class list, from 1 on.
-use Rattle.std.specs.Prelude.{ℕ, zero, suc, Bool, false, not, ◌&&◌, ◌||◌, ◌==◌, if◌then◌else◌, List, [], ◌∷◌, ◌++◌, length, filter, count_by, fold, slice_get, Contains, Option, None}
+use Rattle.std.specs.Prelude.{ℕ, Bool, false, not, ◌&&◌, ◌||◌, ◌==◌, if◌then◌else◌, List, [], ◌∷◌, ◌++◌, length, filter, count_by, fold, Contains, Option, None}
 use Rattle.std.specs.Option.{option_map, option_map_or, option_and_then}
 use Rattle.std.specs.List.{list_any, filter_map, range_with_len}
 use Rattle.criteria_model.specs.declared.pairs.Pair.{Pair}

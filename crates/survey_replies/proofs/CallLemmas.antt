@@ -1,10 +1,10 @@
 -- What conversations come to.
-use Rattle.std.proofs.Common.{◌≡◌, ℕ, zero, suc, ◌+◌, ◌-◌, ◌<◌, ◌≤◌, ◌==◌, Bool, true, false, cond, List, [], ◌∷◌, ◌++◌, length, take, drop, get_or, All, Option, Some, None, slice_get, IsSomeAnd, refl, ap, sym, subst, ◌∙◌, arith, append_assoc, append-nil, map, length-append, length-drop}
+use Rattle.std.proofs.Common.{◌≡◌, ℕ, zero, suc, ◌+◌, ◌-◌, ◌<◌, ◌≤◌, ◌==◌, Bool, true, false, cond, List, [], ◌∷◌, ◌++◌, length, take, drop, All, Option, Some, None, slice_get, IsSomeAnd, refl, ap, sym, subst, ◌∙◌, arith, append_assoc, append-nil, length-append, length-drop}
 use Rattle.std.specs.Prelude.{slice_range, AllPairs}
 use Rattle.std.specs.List.{range_with_len}
 use mathlib.Core.List.{IsPrefix}
 use Rattle.std.proofs.lemmas.Bool.{eqb-true}
-use Rattle.std.proofs.lemmas.List.{take-append-le, drop-append-le, map-append, take_more}
+use Rattle.std.proofs.lemmas.List.{take-append-le, drop-append-le}
 use Rattle.std.proofs.lemmas.List.Sums.{sum_by-cons}
 use Rattle.pair_enumeration.specs.Listed.{Listed}
 use Rattle.survey_core.specs.declared.events.Event.{Event}

@@ -8,8 +8,7 @@ use Rattle.farkas_check.specs.declared.combination.Combination.{Combination}
 use Rattle.survey_core.specs.declared.events.Event.{Event}
 use Rattle.survey_core.specs.declared.events.Event.TheVariants.{Eliminate, Issue, Commit, Close, Withdraw}
 use Rattle.survey_core.specs.Kinds.{cites, issued_place, is_commit, is_withdraw}
-use Rattle.survey_core.specs.Histories.{standing, standing_after, is_taken, without_taken, issued, answer_of, committed, ends, is_unended, open_questions, withdrawals}
-use Rattle.survey_core.proofs.StandingLemmas.{standing-push}
+use Rattle.survey_core.specs.Histories.{standing, standing_after, without_taken, issued, answer_of, committed, ends, is_unended, open_questions, withdrawals}
 use Rattle.survey_replies.specs.Interview.{answered, answered_question}
 use Rattle.survey_replies.specs.Laws.{EliminationsChangeNoReply}
 

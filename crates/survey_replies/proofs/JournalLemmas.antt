@@ -1,7 +1,7 @@
 -- All conversations and eliminators of a journal.
 use Rattle.std.proofs.Common.{◌≡◌, ℕ, zero, suc, ◌+◌, ◌-◌, ◌<◌, ◌≤◌, ◌==◌, Bool, true, false, cond, List, [], ◌∷◌, ◌++◌, length, drop, All, Option, Some, None, slice_get, IsSomeAnd, refl, ap, sym, subst, ◌∙◌, inl, inr, arith}
 use Rattle.std.specs.Prelude.{slice_range, Any}
-use Rattle.std.specs.List.{flat_map, range_with_len}
+use Rattle.std.specs.List.{flat_map}
 use mathlib.Core.List.{IsPrefix}
 use Rattle.std.proofs.lemmas.Bool.{cases_lt, eqb-true}
 use Rattle.std.proofs.lemmas.List.Sums.{sum_by-cons}
@@ -55,7 +55,7 @@ each_desks desk history request.withdraw (outcome.withdraw (Withdrawn at answer 
 each_desks desk history _ _ events same = subst (Each IsDesks) (sym same) tt
 
 -- ---- lists
-each_at : {X : Type 0} (P : X → Type 0) (xs : List X) (k : ℕ) (x : X) → Each P xs → slice_get xs k ≡ Some x → P x
+pub each_at : {X : Type 0} (P : X → Type 0) (xs : List X) (k : ℕ) (x : X) → Each P xs → slice_get xs k ≡ Some x → P x
 each_at P [] k x each at = absurd (none-some x at)
 each_at P (y ∷ xs) zero x each at = subst P (same_Some y x at) each.0
 each_at P (y ∷ xs) (suc k) x each at = each_at P xs k x each.1 at

@@ -29,7 +29,6 @@ use Rattle.survey_replies.specs.Interview.{Interview, interview}
 use Rattle.survey_replies.specs.ReplyLaw.{IsWithdrawReply, IsReplyTo}
 use Rattle.survey_replies.specs.Records.{Records, missing_elimination, recorded}
 use Rattle.survey_replies.specs.Gists.{Gist, gist_of}
-use Rattle.survey_replies.specs.Gists as gist
 use Rattle.survey_replies.specs.Outcomes.{Exchange}
 use Rattle.survey_replies.specs.Calls.{read_by, end_of, places_of, Seen, unseen, IsEliminateOf, IsCall, Conversation, reply_places, occurrences}
 use Rattle.survey_replies.specs.Outcomes.{at_of}

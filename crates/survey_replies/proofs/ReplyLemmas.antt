@@ -1,12 +1,12 @@
 -- One reply at most.
-use Rattle.std.proofs.Common.{◌≡◌, ℕ, ◌-◌, ◌<◌, ◌≤◌, List, [], length, Option, Some, None, slice_get, IsSomeAnd, refl, ap, sym, ◌∙◌, arith, ℤ}
+use Rattle.std.proofs.Common.{◌≡◌, ℕ, ◌<◌, ◌≤◌, List, [], length, Option, Some, None, IsSomeAnd, refl, ap, sym, ◌∙◌, arith}
 use Rattle.std.proofs.lemmas.Option.{same_Some}
 use Rattle.criteria_model.specs.declared.pairs.Pair.{Pair}
 use Rattle.criteria_model.specs.declared.pairs.Answer.{Answer}
 use Rattle.criteria_model.specs.declared.pairs.Side.{Side}
 use Rattle.criteria_model.specs.Answers.{IsSatisfiable, IsRanked, IsOpen}
 use Rattle.pair_enumeration.specs.Listed.{Listed}
-use Rattle.survey_core.specs.Histories.{item_at, class_at, class_of}
+use Rattle.survey_core.specs.Histories.{class_at, class_of}
 use Rattle.survey_core.proofs.RankingLemmas.{ranks_once, answers_are_satisfiable_lem}
 use Rattle.survey_replies.specs.Requests as request
 use Rattle.survey_replies.specs.declared.replies.NextReply.{NextReply}

@@ -1,5 +1,5 @@
 -- A call, made of its turns.
-use Rattle.std.proofs.Common.{◌≡◌, ℕ, suc, ◌+◌, ◌-◌, ◌<◌, ◌≤◌, Bool, true, false, cond, List, [], ◌∷◌, ◌++◌, length, take, drop, Option, Some, refl, ap, sym, subst, ◌∙◌, arith, get_or, append-nil, append_assoc, length-append, IsSomeAnd, inl, inr, slice_get, ◌⊎◌}
+use Rattle.std.proofs.Common.{◌≡◌, ℕ, suc, ◌+◌, ◌-◌, ◌<◌, ◌≤◌, Bool, true, false, cond, List, [], ◌∷◌, ◌++◌, length, take, drop, Option, Some, refl, ap, sym, subst, ◌∙◌, arith, get_or, append_assoc, length-append, slice_get}
 use Rattle.std.specs.Prelude.{slice_range, All, AllPairs}
 use Rattle.std.specs.List.{range_with_len}
 use mathlib.Core.List.{IsPrefix}
@@ -29,7 +29,7 @@ use Rattle.survey_replies.specs.Interview.{interview}
 use Rattle.survey_replies.specs.ReplyLaw.{IsReplyTo}
 use Rattle.survey_replies.specs.Certificates.{Carries}
 use Rattle.survey_replies.specs.Records.{Records, AreRankedByEvents, is_question_eliminated, missing_elimination, recorded}
-use Rattle.survey_replies.specs.Calls.{read_by, end_of, places_of, Seen, HasEliminateOf, IsCall, Prepares, RepliesInTurn, TakesTurn, IsEliminateOf, IsEliminateFor, HasEliminateFor}
+use Rattle.survey_replies.specs.Calls.{read_by, end_of, places_of, IsEliminateFor, HasEliminateFor}
 use Rattle.survey_replies.specs.Outcomes.{at_of}
 use Rattle.survey_replies.specs.CallLaws.{CallIsMade, EliminationPrepares, NothingPrepares, PreparationsJoin}
 use Rattle.survey_replies.proofs.CallLemmas.{pairs_cons, prefix_length, prefix_trans, is_eliminate_more, eliminate_longer}

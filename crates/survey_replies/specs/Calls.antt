@@ -76,7 +76,7 @@ pub record IsCall (listed : Listed) (desk : ℕ) (before after : Seen) (request 
   pub longer : IsPrefix before.journal after.journal
   pub later : length before.journal ≤ at_of reply
   pub ends : length after.journal ≡ end_of after.journal reply
-  -- the places of the Eliminates that the call appended before its last turn, each once
+  -- the places of the Eliminates that the call appended before its last turn, in rising order
   pub eliminated : List ℕ
   pub eliminations : All (λ place. (length before.journal ≤ place) × (place < at_of reply) × HasEliminateFor after.journal request place) eliminated
   pub once : AllPairs (λ one other. one < other) eliminated

@@ -1,5 +1,4 @@
 use Rattle.std.proofs.Common.{◌≡◌, ◌↔◌, ℕ, IsTrue, length, map, subst}
-use Rattle.std.specs.Vec.{vec_capacity}
 use Rattle.survey_core.specs.Recorded.{Recorded}
 use Rattle.survey_core.specs.Legal.{IsPlace}
 use Rattle.survey_core.specs.Histories.{is_ranked}

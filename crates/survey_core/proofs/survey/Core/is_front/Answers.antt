@@ -1,5 +1,4 @@
 use Rattle.std.proofs.Common.{◌↔◌, ◌-◌, IsTrue, map, sym, subst}
-use Rattle.std.specs.Vec.{vec_capacity}
 use Rattle.survey_core.specs.Recorded.{Recorded}
 use Rattle.survey_core.specs.Legal.{IsPlace, AreEarlierAsked}
 use Rattle.survey_core.specs.Marked.{AreSettled}

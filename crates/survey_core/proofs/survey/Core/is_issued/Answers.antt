@@ -1,5 +1,4 @@
-use Rattle.std.proofs.Common.{◌≤◌, map, ap, sym, ◌∙◌}
-use Rattle.std.specs.Vec.{vec_capacity}
+use Rattle.std.proofs.Common.{◌≤◌, ap, sym, ◌∙◌}
 use Rattle.survey_core.specs.Recorded.{Recorded}
 use Rattle.survey_core.specs.Histories.{is_issued}
 use Rattle.survey_core.proofs.ReadLemmas.{mark_at}

@@ -1,5 +1,4 @@
 use Rattle.std.proofs.Common.{rules, ◌≡◌, ◌↔◌, true, false, IsTrue, ◌∷◌, [], ◌++◌, map, All, IsSomeAnd, sym, subst, ◌∙◌}
-use Rattle.std.specs.Vec.{vec_capacity}
 use Rattle.survey_core.specs.Recorded.{Recorded}
 use Rattle.criteria_model.specs.Criteria.{Criteria}
 use Rattle.criteria_model.specs.Pairs.{IsFit}

@@ -1,5 +1,4 @@
-use Rattle.std.proofs.Common.{length, map, ap, sym, ◌∙◌}
-use Rattle.std.specs.Vec.{vec_capacity}
+use Rattle.std.proofs.Common.{length, ap, sym, ◌∙◌}
 use Rattle.survey_core.specs.Recorded.{Recorded}
 use Rattle.survey_core.specs.Histories.{open_questions}
 use Rattle.survey_core.proofs.KeptLemmas.{open_at}
