@@ -39,7 +39,7 @@ def random_pair(random, levels):
 
 
 def ranked(pair, side):
-    return f"Told {{ left: {list(pair[0])}, right: {list(pair[1])}, side: {NAMES[side]} }}"
+    return f"({list(pair[0])}, {list(pair[1])}, {NAMES[side]})"
 
 
 def main():
@@ -68,7 +68,7 @@ def main():
         for levels, point, first, second, pair in kept:
             padded = list(point) + [0] * (5 - len(point))
             print(
-                f"Case {{ levels: {list(levels)}, told: [{first}, {second}], point: {padded},"
+                f"Case {{ levels: {list(levels)}, known: [{first}, {second}], point: {padded},"
                 f" left: {list(pair[0])}, right: {list(pair[1])}, want: {want} }},"
             )
 

@@ -1,8 +1,7 @@
 -- Which vectors meet the rows of rankings and of answers.
-use Rattle.std.proofs.Common.{◌≡◌, ℕ, List, [], ◌∷◌, ◌++◌, ℤ, pos, ◌+ℤ◌, ◌-ℤ◌, ◌*ℤ◌, ◌≤ℤ◌, refl, sym, ap, ap₂, subst, ◌∙◌, arith, append-nil}
+use Rattle.std.proofs.Common.{◌≡◌, ℕ, List, [], ◌∷◌, ◌++◌, ℤ, pos, ◌-ℤ◌, ◌*ℤ◌, ◌≤ℤ◌, sym, ap, subst, ◌∙◌, arith, append-nil}
 use Rattle.std.specs.Prelude.{All, Some, slice_get}
 use Rattle.std.proofs.lemmas.Option.{get_or_from_slice_get, slice_get_within}
-use Rattle.std.proofs.Math.IntN.{*ℤ_comm}
 use Rattle.std.proofs.lemmas.Int.{ints}
 use Rattle.std.proofs.lemmas.Grind.{flat_map-append}
 use Rattle.std.proofs.lemmas.List.Elements.{All-nil, All-cons, All-head, All-tail, All-append, All-push, All-weaker, All-from_get_or}
@@ -18,7 +17,7 @@ use Rattle.criteria_model.proofs.GainLemmas.{Favours, ranks_favours, favours_ran
 use Rattle.row_laws.proofs.RowLemmas.{dot_comm, dot-minus, dot-times, length-times}
 use Rattle.fraction_free.specs.declared.loaded.LoadedRow.{LoadedRow}
 use Rattle.fraction_free.specs.Dictionary.{DictionaryView, no_row}
-use Rattle.simplex.specs.Rows.{MeetsRows}
+use Rattle.simplex.specs.Rows.{MeetsRows, IsCoprime}
 use Rattle.decider.specs.Standing.{rows_of, rows_of_answers, StandsFor}
 
 -- ---- rows one by one
@@ -47,7 +46,7 @@ All-later P (x ∷ xs) ys all = All-later P xs ys (All-tail P x (xs ++ ys) all)
 pub All-found : {X : Type 0} (P : X → Type 0) (xs : List X) (k : ℕ) (x : X) → All P xs → slice_get xs k ≡ Some x → P x
 All-found P xs k x all is = subst P (get_or_from_slice_get xs k x x is) (all k x (slice_get_within xs k x is))
 
--- ---- rows behind rows
+-- ---- rows after rows
 
 pub meets_both : (columns : ℕ) (some more : List LoadedRow) (vector : List ℤ) → MeetsRows columns some vector → MeetsRows columns more vector → MeetsRows columns (some ++ more) vector
 meets_both columns some more vector meets also = record {
@@ -102,7 +101,8 @@ each_ranks levels values pair Equal each =
     omega (arith, ints, first, second, apart levels pair.left pair.right values, apart levels pair.right pair.left values)
 
 -- a value vector meets the rows of a ranking exactly where it ranks the pair so
-pub ranks_meets : (levels : List ℕ) (values : List ℤ) (pair : Pair) (side : Side) → IsValueVector levels values → Ranks levels values pair side → MeetsRows (increments levels) (rows_of levels pair side) values
+pub ranks_meets : (levels : List ℕ) (values : List ℤ) (pair : Pair) (side : Side) → IsValueVector levels values → Ranks levels values pair side
+    → MeetsRows (increments levels) (rows_of levels pair side) values
 ranks_meets levels values pair side vector ranks = from_each_row levels (rows_of levels pair side) values vector (ranks_each levels values pair side ranks)
 
 pub meets_ranks : (levels : List ℕ) (values : List ℤ) (pair : Pair) (side : Side) → MeetsRows (increments levels) (rows_of levels pair side) values → Ranks levels values pair side
@@ -139,7 +139,8 @@ rows_meet_all levels answers values meets = record {
 pub rows_append : (levels : List ℕ) (answers more : List Answer) → rows_of_answers levels (answers ++ more) ≡ rows_of_answers levels answers ++ rows_of_answers levels more
 rows_append levels answers more = flat_map-append (λ (answer : Answer). rows_of levels answer.pair answer.side) answers more
 
-pub rows_push : (levels : List ℕ) (answers : List Answer) (answer : Answer) → rows_of_answers levels (answers ++ answer ∷ []) ≡ rows_of_answers levels answers ++ rows_of levels answer.pair answer.side
+pub rows_push : (levels : List ℕ) (answers : List Answer) (answer : Answer)
+    → rows_of_answers levels (answers ++ answer ∷ []) ≡ rows_of_answers levels answers ++ rows_of levels answer.pair answer.side
 rows_push levels answers answer =
     rows_append levels answers (answer ∷ []) ∙ ap (λ (l : List LoadedRow). rows_of_answers levels answers ++ l) (append-nil (rows_of levels answer.pair answer.side))
 
@@ -147,9 +148,11 @@ rows_push levels answers answer =
 pub meets_tried : (levels : List ℕ) (answers : List Answer) (values : List ℤ) (pair : Pair) (side : Side) → MeetsAll levels answers values → Ranks levels values pair side
     → MeetsRows (increments levels) (rows_of_answers levels answers ++ rows_of levels pair side) values
 meets_tried levels answers values pair side meets ranks =
-    meets_both (increments levels) (rows_of_answers levels answers) (rows_of levels pair side) values (all_meets_rows levels answers values meets) (ranks_meets levels values pair side meets.vector ranks)
+    meets_both (increments levels) (rows_of_answers levels answers) (rows_of levels pair side) values (all_meets_rows levels answers values meets)
+    (ranks_meets levels values pair side meets.vector ranks)
 
-pub tried_meets : (levels : List ℕ) (answers : List Answer) (values : List ℤ) (pair : Pair) (side : Side) → MeetsRows (increments levels) (rows_of_answers levels answers ++ rows_of levels pair side) values
+pub tried_meets : (levels : List ℕ) (answers : List Answer) (values : List ℤ) (pair : Pair) (side : Side)
+    → MeetsRows (increments levels) (rows_of_answers levels answers ++ rows_of levels pair side) values
     → MeetsAll levels answers values × Ranks levels values pair side
 tried_meets levels answers values pair side meets = (
   rows_meet_all levels answers values (meets_first (increments levels) (rows_of_answers levels answers) (rows_of levels pair side) values meets),
@@ -157,7 +160,8 @@ tried_meets levels answers values pair side meets = (
 )
 
 -- so it meets the answers with this one more
-pub meets_more : (levels : List ℕ) (answers : List Answer) (values : List ℤ) (answer : Answer) → MeetsAll levels answers values → Meets levels values answer → MeetsAll levels (answers ++ answer ∷ []) values
+pub meets_more : (levels : List ℕ) (answers : List Answer) (values : List ℤ) (answer : Answer) → MeetsAll levels answers values → Meets levels values answer
+    → MeetsAll levels (answers ++ answer ∷ []) values
 meets_more levels answers values answer meets also = record { vector = meets.vector; each = All-push (Meets levels values) answers answer meets.each also }
 
 -- ---- a vector without a factor ranks as the one with it
@@ -176,30 +180,39 @@ ranks_scaled levels factor values pair side low ranks =
     (favours_scaled side factor (dot values (gain levels pair side)) low
     (subst (Favours side) (dot-scaled factor values (gain levels pair side)) (ranks_favours levels (times factor values) pair side ranks)))
 
-pub meets_scaled : (levels : List ℕ) (answers : List Answer) (factor : ℤ) (values : List ℤ) → pos 1 ≤ℤ factor → All (λ x. pos 1 ≤ℤ x) values → MeetsAll levels answers (times factor values) → MeetsAll levels answers values
+pub meets_scaled : (levels : List ℕ) (answers : List Answer) (factor : ℤ) (values : List ℤ) → pos 1 ≤ℤ factor → All (λ x. pos 1 ≤ℤ x) values
+    → MeetsAll levels answers (times factor values) → MeetsAll levels answers values
 meets_scaled levels answers factor values low positive meets = record {
   vector = record { len = sym (length-times factor values) ∙ meets.vector.len; positive = positive };
   each = All-weaker (Meets levels (times factor values)) (Meets levels values) (λ answer ranks. ranks_scaled levels factor values answer.pair answer.side low ranks) answers meets.each;
 }
 
 -- a vector without its common divisor, as `reduced` gives it
-pub without_factor : (levels : List ℕ) (answers : List Answer) (pair : Pair) (side : Side) (vector given kept : List ℤ) → given ≡ vector → (factor : ℤ) × (pos 1 ≤ℤ factor) × (given ≡ times factor kept) → All (λ x. pos 1 ≤ℤ x) kept
+pub record IsReduced (vector given kept : List ℤ) : Type 0 where
+  pub value : given ≡ vector
+  pub multiple : (factor : ℤ) × (pos 1 ≤ℤ factor) × (given ≡ times factor kept)
+  pub positive : All (λ x. pos 1 ≤ℤ x) kept
+  pub reduced : IsCoprime kept
+
+pub without_factor : (levels : List ℕ) (answers : List Answer) (pair : Pair) (side : Side) (vector given kept : List ℤ) → IsReduced vector given kept
     → MeetsAll levels answers vector → Ranks levels vector pair side → MeetsAll levels answers kept × Ranks levels kept pair side
-without_factor levels answers pair side vector given kept same (factor, low, multiple) positive meets ranks =
-    let e : vector ≡ times factor kept = sym same ∙ multiple in (
-      meets_scaled levels answers factor kept low positive (subst (MeetsAll levels answers) e meets),
-      ranks_scaled levels factor kept pair side low (subst (λ (v : List ℤ). Ranks levels v pair side) e ranks),
+without_factor levels answers pair side vector given kept r meets ranks =
+    let e : vector ≡ times r.multiple.0 kept = sym r.value ∙ r.multiple.2 in (
+      meets_scaled levels answers r.multiple.0 kept r.multiple.1 r.positive (subst (MeetsAll levels answers) e meets),
+      ranks_scaled levels r.multiple.0 kept pair side r.multiple.1 (subst (λ (v : List ℤ). Ranks levels v pair side) e ranks),
     )
 
 -- ---- the rows of a dictionary that stands for answers, and of a ranking that is tried
 
-pub standing_meets : (levels : List ℕ) (answers : List Answer) (d : DictionaryView) (values : List ℤ) (pair : Pair) (side : Side) → StandsFor levels answers d → MeetsAll levels answers values → Ranks levels values pair side
+pub standing_meets : (levels : List ℕ) (answers : List Answer) (d : DictionaryView) (values : List ℤ) (pair : Pair) (side : Side) → StandsFor levels answers d
+    → MeetsAll levels answers values → Ranks levels values pair side
     → MeetsRows d.columns (d.loaded ++ rows_of levels pair side) values
 standing_meets levels answers d values pair side stands meets ranks =
     subst (λ (n : ℕ). MeetsRows n (d.loaded ++ rows_of levels pair side) values) (sym stands.columns)
     (subst (λ (l : List LoadedRow). MeetsRows (increments levels) (l ++ rows_of levels pair side) values) (sym stands.loaded) (meets_tried levels answers values pair side meets ranks))
 
-pub meets_standing : (levels : List ℕ) (answers : List Answer) (d : DictionaryView) (values : List ℤ) (pair : Pair) (side : Side) → StandsFor levels answers d → MeetsRows d.columns (d.loaded ++ rows_of levels pair side) values
+pub meets_standing : (levels : List ℕ) (answers : List Answer) (d : DictionaryView) (values : List ℤ) (pair : Pair) (side : Side) → StandsFor levels answers d
+    → MeetsRows d.columns (d.loaded ++ rows_of levels pair side) values
     → MeetsAll levels answers values × Ranks levels values pair side
 meets_standing levels answers d values pair side stands meets =
     tried_meets levels answers values pair side

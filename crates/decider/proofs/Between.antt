@@ -52,7 +52,8 @@ positive_mixed a (x ∷ v) b (y ∷ w) e low low' f g =
     (sum_positive (a *ℤ x) (b *ℤ y) (mul_positive a x low (All-head (λ x. pos 1 ≤ℤ x) x v f)) (mul_positive b y low' (All-head (λ x. pos 1 ≤ℤ x) y w g)))
     (positive_mixed a v b w (omega arith) low low' (All-tail (λ x. pos 1 ≤ℤ x) x v f) (All-tail (λ x. pos 1 ≤ℤ x) y w g))
 
-meets_mixed : (levels : List ℕ) (answers : List Answer) (a : ℤ) (v : List ℤ) (b : ℤ) (w : List ℤ) → pos 1 ≤ℤ a → pos 1 ≤ℤ b → MeetsAll levels answers v → MeetsAll levels answers w → MeetsAll levels answers (mixed a v b w)
+meets_mixed : (levels : List ℕ) (answers : List Answer) (a : ℤ) (v : List ℤ) (b : ℤ) (w : List ℤ) → pos 1 ≤ℤ a → pos 1 ≤ℤ b → MeetsAll levels answers v → MeetsAll levels answers w
+    → MeetsAll levels answers (mixed a v b w)
 meets_mixed levels answers a v b w low low' f g = record {
   vector = record {
     len = omega (arith, length-plus (times a v) (times b w), length-times a v, length-times b w, f.vector.len, g.vector.len);

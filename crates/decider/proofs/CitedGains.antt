@@ -1,7 +1,6 @@
 -- The rows of answers and the gains that they stand for.
-use Rattle.std.proofs.Common.{◌≡◌, ℕ, zero, suc, ◌+◌, ◌-◌, ◌<◌, List, [], ◌∷◌, ◌++◌, length, get_or, take, Option, Some, ℤ, pos, neg_ℤ, ◌+ℤ◌, ◌-ℤ◌, ◌*ℤ◌, ◌≤ℤ◌, refl, sym, ap, ap₂, subst, ◌∙◌, arith, append_assoc}
+use Rattle.std.proofs.Common.{◌≡◌, ℕ, zero, suc, ◌+◌, ◌-◌, ◌<◌, List, [], ◌∷◌, ◌++◌, length, get_or, take, Some, ℤ, pos, neg_ℤ, ◌+ℤ◌, ◌-ℤ◌, ◌*ℤ◌, ◌≤ℤ◌, refl, sym, ap, ap₂, subst, ◌∙◌, arith, append_assoc}
 use Rattle.std.specs.Prelude.{All, slice_get}
-use Rattle.std.specs.Option.{option_map_or}
 use Rattle.std.proofs.lemmas.Int.{ints}
 use Rattle.std.proofs.lemmas.Option.{get_or_from_slice_get, slice_get_within, slice_get-get_or}
 use Rattle.std.proofs.lemmas.List.{get_or_append_left, get_or-append-add, length-append}
@@ -12,12 +11,9 @@ use Rattle.criteria_model.specs.declared.pairs.Pair.{Pair}
 use Rattle.criteria_model.specs.declared.pairs.Answer.{Answer}
 use Rattle.criteria_model.specs.declared.pairs.Side.{Side}
 use Rattle.criteria_model.specs.declared.pairs.Side.TheVariants.{Left, Right, Equal}
-use Rattle.row_laws.specs.Rows.{minus, plus, times}
-use Rattle.criteria_model.specs.Worth.{has, increments}
-use Rattle.criteria_model.specs.Pairs.{IsFit}
+use Rattle.row_laws.specs.Rows.{minus}
+use Rattle.criteria_model.specs.Worth.{has}
 use Rattle.criteria_model.specs.Answers.{gain}
-use Rattle.criteria_model.proofs.GainLemmas.{length-gain}
-use Rattle.row_laws.proofs.RowLemmas.{length-plus, length-times}
 use Rattle.farkas_check.specs.declared.cites.Cite.{Cite}
 use Rattle.farkas_check.specs.Sums.{cited_gain, sum_of_cites}
 use Rattle.farkas_check.proofs.SumLemmas.{cited_gain-there}
@@ -98,7 +94,8 @@ rows_at levels (a ∷ answers) more (suc k) answer i here lt =
     let place : rows_in (a ∷ take k answers) + i ≡ length (rows_of levels a.pair a.side) + (rows_in (take k answers) + i) =
     omega (arith, sum_by-cons (λ (b : Answer). rows_for b.side) a (take k answers), rows_for-length levels a.pair a.side) in
     ap (loaded_at ((rows_of levels a.pair a.side ++ rows_of_answers levels answers) ++ more)) place
-    ∙ ap (λ (l : List LoadedRow). loaded_at l (length (rows_of levels a.pair a.side) + (rows_in (take k answers) + i))) (append_assoc (rows_of levels a.pair a.side) (rows_of_answers levels answers) more)
+    ∙ ap (λ (l : List LoadedRow). loaded_at l (length (rows_of levels a.pair a.side) + (rows_in (take k answers) + i)))
+    (append_assoc (rows_of levels a.pair a.side) (rows_of_answers levels answers) more)
     ∙ get_or-append-add (rows_of levels a.pair a.side) (rows_of_answers levels answers ++ more) (rows_in (take k answers) + i) no_row
     ∙ rows_at levels answers more k answer i here lt
 
@@ -138,7 +135,7 @@ coefficients_opposed levels answers more j number answer here equal =
         subst (λ (s : Side). get_or (get_or (rows_of levels answer.pair s) 1 no_row).coefficients j (pos 0) ≡ neg_ℤ (get_or (gain levels answer.pair s) j (pos 0))) (sym e)
         (turned_at (has levels answer.pair.right) (has levels answer.pair.left) j)
 
--- the first row behind those of the answers
+-- the first row after those of the answers
 pub tried_coefficient : (levels : List ℕ) (answers : List Answer) (pair : Pair) (side : Side) (j : ℕ)
     → coefficient (rows_of_answers levels answers ++ rows_of levels pair side) j (rows_in answers + 1) ≡ get_or (gain levels pair side) j (pos 0)
 tried_coefficient levels answers pair side j =

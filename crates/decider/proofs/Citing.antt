@@ -21,7 +21,7 @@ use Rattle.farkas_check.specs.Proof.{MayWeigh}
 use Rattle.simplex.specs.declared.row_weights.RowWeight.{RowWeight}
 use Rattle.simplex.specs.Weights.{is_weight, AreRowWeights, no_weight, weighted}
 use Rattle.decider.specs.Standing.{rows_of}
-use Rattle.decider.specs.Combining.{rows_for, rows_in, first_row, AreFrom, TakesRanking, with_cite, IsOpposed, cited_sum, CitesRows}
+use Rattle.decider.specs.Combining.{rows_for, rows_in, first_row, AreFrom, TakesRanking, with_cite, IsOpposed, cited_sum, EachMayWeigh, CitesRows}
 
 pub rows_for-length : (levels : List ℕ) (pair : Pair) (side : Side) → length (rows_of levels pair side) ≡ rows_for side
 rows_for-length levels pair Left = refl
@@ -76,7 +76,7 @@ pub record CitedSoFar (answers : List Answer) (rows : List RowWeight) (held row 
   pub each : All IsCite cites
   pub ascending : IsStrictlyIncreasing (map (λ cite. cite.answer) cites)
   pub below : All (λ cite. cite.answer ≤ held) cites
-  pub weights : All (λ cite. MayWeigh (cited_side answers cite) cite.weight) cites
+  pub weights : EachMayWeigh answers cites
   pub summed : (of : ℕ → ℤ) → IsOpposed answers of → cited_sum (λ number. of (first_row answers number)) cites ≡ weighted of (take taken rows)
 
 pub cited_none : (answers : List Answer) (rows : List RowWeight) → AreRowWeights rows → CitedSoFar answers rows 0 1 0 []
@@ -95,7 +95,8 @@ cited_none answers rows are = record {
 
 -- ---- one answer more
 
-rows_more : (answers : List Answer) (held : ℕ) (answer : Answer) → held < length answers → slice_get answers held ≡ Some answer → rows_in (take (held + 1) answers) ≡ rows_in (take held answers) + rows_for answer.side
+rows_more : (answers : List Answer) (held : ℕ) (answer : Answer) → held < length answers → slice_get answers held ≡ Some answer
+    → rows_in (take (held + 1) answers) ≡ rows_in (take held answers) + rows_for answer.side
 rows_more answers held answer lt here =
     sum_by_more (λ (a : Answer). rows_for a.side) answers held answer lt
     ∙ ap (λ (a : Answer). rows_in (take held answers) + rows_for a.side) (get_or_from_slice_get answers held answer answer here)

@@ -44,11 +44,13 @@ front_within answers rows are ends =
 
 -- ---- what divides the numbers
 
-pub divides_increments : (d : ℕ) (scale : ℤ) (increments : List ℤ) (cites : List Cite) → All (λ x. d ∣ unsigned_abs x) (scale ∷ increments ++ map (λ cite. cite.weight) cites) → All (λ x. d ∣ unsigned_abs x) increments
+pub divides_increments : (d : ℕ) (scale : ℤ) (increments : List ℤ) (cites : List Cite) → All (λ x. d ∣ unsigned_abs x) (scale ∷ increments ++ map (λ cite. cite.weight) cites)
+    → All (λ x. d ∣ unsigned_abs x) increments
 divides_increments d scale increments cites all =
     All-first (λ x. d ∣ unsigned_abs x) increments (map (λ cite. cite.weight) cites) (All-tail (λ x. d ∣ unsigned_abs x) scale (increments ++ map (λ cite. cite.weight) cites) all)
 
-pub divides_cites : (d : ℕ) (scale : ℤ) (increments : List ℤ) (cites : List Cite) → All (λ x. d ∣ unsigned_abs x) (scale ∷ increments ++ map (λ cite. cite.weight) cites) → All (λ cite. d ∣ unsigned_abs cite.weight) cites
+pub divides_cites : (d : ℕ) (scale : ℤ) (increments : List ℤ) (cites : List Cite) → All (λ x. d ∣ unsigned_abs x) (scale ∷ increments ++ map (λ cite. cite.weight) cites)
+    → All (λ cite. d ∣ unsigned_abs cite.weight) cites
 divides_cites d scale increments cites all =
     let weights : All (λ x. d ∣ unsigned_abs x) (map (λ cite. cite.weight) cites) =
     All-later (λ x. d ∣ unsigned_abs x) increments (map (λ cite. cite.weight) cites) (All-tail (λ x. d ∣ unsigned_abs x) scale (increments ++ map (λ cite. cite.weight) cites) all) in
@@ -83,7 +85,8 @@ divided_has_no_divisor weight increments cites divisor scale own list are =
     quotient_is_coprime (weight ∷ increments ++ map (λ cite. cite.weight) cites) (scale ∷ own ++ map (λ cite. cite.weight) list) divisor are.greatest.positive
     (numbers_multiple weight increments cites divisor scale own list are) are.greatest.greatest
 
-pub divided_scale_small : (weight : ℤ) (increments : List ℤ) (cites : List Cite) (divisor scale : ℤ) (own : List ℤ) (list : List Cite) → AreDivided weight increments cites divisor scale own list → unsigned_abs weight < 2 ^ 96
+pub divided_scale_small : (weight : ℤ) (increments : List ℤ) (cites : List Cite) (divisor scale : ℤ) (own : List ℤ) (list : List Cite)
+    → AreDivided weight increments cites divisor scale own list → unsigned_abs weight < 2 ^ 96
     → unsigned_abs scale < 2 ^ 96
 divided_scale_small weight increments cites divisor scale own list are small =
     let le = factor_small divisor scale weight are.greatest.positive are.scale_is in omega arith

@@ -63,8 +63,10 @@ divides_next scale g read r increments cites index lt e is nonneg size positive 
   size = size;
   of_scale = dvd_trans (unsigned_abs r) is.0 so.of_scale;
   of_increments = λ k x lt. dvd_trans (unsigned_abs r) is.0 (so.of_increments k x lt);
-  of_cites = below_more (λ k. unsigned_abs r ∣ unsigned_abs (get_or cites k no_cite).weight) index (λ k lt. dvd_trans (unsigned_abs r) is.0 (so.of_cites k lt)) (subst (λ (n : ℤ). unsigned_abs r ∣ unsigned_abs n) e is.1);
-  greatest = λ d scale_too increments_too cites_too. is.2 d (so.greatest d scale_too increments_too (λ k lt. cites_too k (omega arith))) (subst (λ (n : ℤ). d ∣ unsigned_abs n) (sym e) (cites_too index (omega arith)));
+  of_cites = below_more (λ k. unsigned_abs r ∣ unsigned_abs (get_or cites k no_cite).weight) index (λ k lt. dvd_trans (unsigned_abs r) is.0 (so.of_cites k lt))
+      (subst (λ (n : ℤ). unsigned_abs r ∣ unsigned_abs n) e is.1);
+  greatest = λ d scale_too increments_too cites_too. is.2 d (so.greatest d scale_too increments_too (λ k lt. cites_too k (omega arith)))
+      (subst (λ (n : ℤ). d ∣ unsigned_abs n) (sym e) (cites_too index (omega arith)));
 }
 
 pub divides_all : (scale g : ℤ) (increments : List ℤ) (cites : List Cite) (index : ℕ) → length cites ≤ index → DividesSoFar scale increments cites index g
@@ -110,7 +112,8 @@ quotient_weighs g q w e ne = from q refl
     from (pos (suc p)) z = refl
     from (negsuc p) z = refl
 
-pub divided_more : (divisor quotient : ℤ) (cites list : List Cite) (index : ℕ) (cite : Cite) → index < length cites → get_or cites index no_cite ≡ cite → divisor *ℤ quotient ≡ cite.weight → IsCite cite
+pub divided_more : (divisor quotient : ℤ) (cites list : List Cite) (index : ℕ) (cite : Cite) → index < length cites → get_or cites index no_cite ≡ cite → divisor *ℤ quotient ≡ cite.weight
+    → IsCite cite
     → DividedSoFar divisor cites index list → DividedSoFar divisor cites (index + 1) (with_cite list cite.answer quotient)
 divided_more divisor quotient cites list index cite lt here exact is so = record {
   most = omega arith;

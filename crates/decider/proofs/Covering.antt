@@ -1,23 +1,23 @@
 -- When one pair's gain is at least another's at each increment.
-use Rattle.std.proofs.Common.{◌≡◌, ◌≢◌, ◌↔◌, ◌⊎◌, inl, inr, ℕ, zero, suc, ◌+◌, ◌-◌, ◌≤◌, ◌<◌, max, List, [], ◌∷◌, ◌++◌, length, map, get_or, ℤ, pos, ◌-ℤ◌, ◌≤ℤ◌, refl, ap, ap₂, sym, subst, ◌∙◌, arith}
-use Rattle.std.specs.Prelude.{All, EachIndex, slice_index, IsTrue, Bool}
+use Rattle.std.proofs.Common.{◌≡◌, ◌≢◌, ◌↔◌, inl, inr, ℕ, zero, suc, ◌+◌, ◌-◌, ◌≤◌, ◌<◌, max, List, [], ◌∷◌, ◌++◌, length, map, get_or, ℤ, pos, ◌-ℤ◌, ◌≤ℤ◌, refl, ap₂, sym, subst, ◌∙◌, arith}
+use Rattle.std.specs.Prelude.{All, EachIndex, slice_index}
 use Rattle.std.specs.List.{range_with_len}
 use Rattle.std.proofs.lemmas.Int.{ints}
 use Rattle.std.proofs.lemmas.Bool.Decides.{nat_tests}
 use Rattle.std.proofs.lemmas.Bool.{cases_lt}
 use Rattle.std.proofs.lemmas.List.Elements.{All-nil, All-cons, All-append}
-use Rattle.std.proofs.lemmas.List.FromFn.{get_or-map-range_with_len, length-map-range_with_len}
+use Rattle.std.proofs.lemmas.List.FromFn.{get_or-map-range_with_len}
 use Rattle.criteria_model.specs.declared.pairs.Pair.{Pair}
 use Rattle.criteria_model.specs.declared.pairs.Answer.{Answer}
 use Rattle.criteria_model.specs.declared.pairs.Side.{Side}
 use Rattle.criteria_model.specs.declared.pairs.Side.TheVariants.{Left, Right, Equal}
 use Rattle.row_laws.specs.Rows.{minus}
-use Rattle.criteria_model.specs.Worth.{increments, lies_above, has_on, has}
+use Rattle.criteria_model.specs.Worth.{lies_above, has_on, has}
 use Rattle.criteria_model.specs.Pairs.{FitsAt, IsFit, turned}
 use Rattle.criteria_model.specs.Answers.{gain}
 use Rattle.row_laws.proofs.RowLemmas.{length-minus, minus-append}
 use Rattle.criteria_model.proofs.LevelLemmas.{length-has_on}
-use Rattle.decider.specs.OneAnswer.{CoversAt, Covers, CoversAnswer, Suffices}
+use Rattle.decider.specs.OneAnswer.{CoversAt, CoversOnEach, CoversAnswer, Suffices}
 use Rattle.decider.proofs.AnswerRows.{All-first, All-later}
 
 abbrev pub IsNonnegative : ℤ → Type 0
@@ -57,7 +57,8 @@ gain_on n high low = minus (has_on n high) (has_on n low)
 nonnegative_map : (f g h k : ℕ → ℤ) (is : List ℕ) → ((i : ℕ) → (h i -ℤ k i) ≤ℤ (f i -ℤ g i)) → All IsNonnegative (minus (minus (map f is) (map g is)) (minus (map h is) (map k is)))
 nonnegative_map f g h k [] each = All-nil IsNonnegative
 nonnegative_map f g h k (i ∷ is) each =
-    All-cons IsNonnegative ((f i -ℤ g i) -ℤ (h i -ℤ k i)) (minus (minus (map f is) (map g is)) (minus (map h is) (map k is))) (let e = each i in omega (arith, ints)) (nonnegative_map f g h k is each)
+    All-cons IsNonnegative ((f i -ℤ g i) -ℤ (h i -ℤ k i)) (minus (minus (map f is) (map g is)) (minus (map h is) (map k is))) (let e = each i in omega (arith, ints))
+    (nonnegative_map f g h k is each)
 
 get_or-minus : (a b : List ℤ) (k : ℕ) → length a ≡ length b → get_or (minus a b) k (pos 0) ≡ get_or a k (pos 0) -ℤ get_or b k (pos 0)
 get_or-minus [] [] k e = omega (arith, ints)
@@ -69,14 +70,31 @@ get_or-minus (x ∷ a) (y ∷ b) (suc k) e = get_or-minus a b k (omega arith)
 on_place : (n a b c d i : ℕ) → i < n - 1 → get_or (minus (gain_on n a b) (gain_on n c d)) i (pos 0) ≡ (lies_above a (1 + i) -ℤ lies_above b (1 + i)) -ℤ (lies_above c (1 + i) -ℤ lies_above d (1 + i))
 on_place n a b c d i lt =
     let at : (level : ℕ) → get_or (has_on n level) i (pos 0) ≡ lies_above level (1 + i) = λ level. get_or-map-range_with_len (lies_above level) 1 (n - 1) i (1 + i) (pos 0) lt refl in
-    get_or-minus (gain_on n a b) (gain_on n c d) i (omega (arith, length-minus (has_on n a) (has_on n b), length-minus (has_on n c) (has_on n d), length-has_on n a, length-has_on n b, length-has_on n c, length-has_on n d))
+    get_or-minus (gain_on n a b) (gain_on n c d) i (omega (
+      arith,
+      length-minus (has_on n a) (has_on n b),
+      length-minus (has_on n c) (has_on n d),
+      length-has_on n a,
+      length-has_on n b,
+      length-has_on n c,
+      length-has_on n d,
+    ))
     ∙ ap₂ (λ (x y : ℤ). x -ℤ y)
     (get_or-minus (has_on n a) (has_on n b) i (length-has_on n a ∙ sym (length-has_on n b)) ∙ ap₂ (λ (x y : ℤ). x -ℤ y) (at a) (at b))
     (get_or-minus (has_on n c) (has_on n d) i (length-has_on n c ∙ sym (length-has_on n d)) ∙ ap₂ (λ (x y : ℤ). x -ℤ y) (at c) (at d))
 
 length-on : (n a b c d : ℕ) → length (minus (gain_on n a b) (gain_on n c d)) ≡ n - 1
 length-on n a b c d =
-    omega (arith, length-minus (gain_on n a b) (gain_on n c d), length-minus (has_on n a) (has_on n b), length-minus (has_on n c) (has_on n d), length-has_on n a, length-has_on n b, length-has_on n c, length-has_on n d)
+    omega (
+      arith,
+      length-minus (gain_on n a b) (gain_on n c d),
+      length-minus (has_on n a) (has_on n b),
+      length-minus (has_on n c) (has_on n d),
+      length-has_on n a,
+      length-has_on n b,
+      length-has_on n c,
+      length-has_on n d,
+    )
 
 -- what holds at the criterion's increments holds at each number, since levels lie within
 gains_on : (n a b c d : ℕ) → FitsAt n a b → FitsAt n c d → All IsNonnegative (minus (gain_on n a b) (gain_on n c d)) → GainsAtLeast a b c d
@@ -116,7 +134,8 @@ length-gains_on : (n a b : ℕ) → length (gain_on n a b) ≡ n - 1
 length-gains_on n a b = omega (arith, length-minus (has_on n a) (has_on n b), length-has_on n a, length-has_on n b)
 
 gains-cons : (n a b c d : ℕ) (levels high low other_high other_low : List ℕ)
-    → minus (gains (n ∷ levels) (a ∷ high) (b ∷ low)) (gains (n ∷ levels) (c ∷ other_high) (d ∷ other_low)) ≡ minus (gain_on n a b) (gain_on n c d) ++ minus (gains levels high low) (gains levels other_high other_low)
+    → minus (gains (n ∷ levels) (a ∷ high) (b ∷ low)) (gains (n ∷ levels) (c ∷ other_high) (d ∷ other_low)) ≡ minus (gain_on n a b) (gain_on n c d)
+    ++ minus (gains levels high low) (gains levels other_high other_low)
 gains-cons n a b c d levels high low other_high other_low =
     ap₂ minus (minus-append (has_on n a) (has levels high) (has_on n b) (has levels low) (length-has_on n a ∙ sym (length-has_on n b)))
     (minus-append (has_on n c) (has levels other_high) (has_on n d) (has levels other_low) (length-has_on n c ∙ sym (length-has_on n d)))
@@ -131,7 +150,8 @@ record BothFit (levels high low other_high other_low : List ℕ) : Type 0 where
   places : EachIndex levels (λ k. FitsAt (slice_index levels k) (slice_index high k) (slice_index low k))
   other_places : EachIndex levels (λ k. FitsAt (slice_index levels k) (slice_index other_high k) (slice_index other_low k))
 
-rest_fits : (n a b c d : ℕ) (levels high low other_high other_low : List ℕ) → BothFit (n ∷ levels) (a ∷ high) (b ∷ low) (c ∷ other_high) (d ∷ other_low) → BothFit levels high low other_high other_low
+rest_fits : (n a b c d : ℕ) (levels high low other_high other_low : List ℕ) → BothFit (n ∷ levels) (a ∷ high) (b ∷ low) (c ∷ other_high) (d ∷ other_low)
+    → BothFit levels high low other_high other_low
 rest_fits n a b c d levels high low other_high other_low f = record {
   high_len = omega (arith, f.high_len);
   low_len = omega (arith, f.low_len);
@@ -141,7 +161,8 @@ rest_fits n a b c d levels high low other_high other_low f = record {
   other_places = λ k l. f.other_places (suc k) (omega arith);
 }
 
-covers_nonnegative : (levels high low other_high other_low : List ℕ) → BothFit levels high low other_high other_low → Covers high low other_high other_low → All IsNonnegative (minus (gains levels high low) (gains levels other_high other_low))
+covers_nonnegative : (levels high low other_high other_low : List ℕ) → BothFit levels high low other_high other_low → CoversOnEach high low other_high other_low
+    → All IsNonnegative (minus (gains levels high low) (gains levels other_high other_low))
 covers_nonnegative [] high low other_high other_low f covers = All-nil IsNonnegative
 covers_nonnegative (n ∷ levels) [] low other_high other_low f covers = absurd (omega (arith, f.high_len))
 covers_nonnegative (n ∷ levels) (a ∷ high) [] other_high other_low f covers = absurd (omega (arith, f.low_len))
@@ -153,11 +174,13 @@ covers_nonnegative (n ∷ levels) (a ∷ high) (b ∷ low) (c ∷ other_high) (d
     (nonnegative_map (lies_above a) (lies_above b) (lies_above c) (lies_above d) (range_with_len 1 (n - 1)) (covers_gains a b c d (covers 0 (omega arith))))
     (covers_nonnegative levels high low other_high other_low (rest_fits n a b c d levels high low other_high other_low f) (λ k l. covers (suc k) (omega arith))))
 
-covers_cons : (a b c d : ℕ) (high low other_high other_low : List ℕ) → CoversAt a b c d → Covers high low other_high other_low → Covers (a ∷ high) (b ∷ low) (c ∷ other_high) (d ∷ other_low)
+covers_cons : (a b c d : ℕ) (high low other_high other_low : List ℕ) → CoversAt a b c d → CoversOnEach high low other_high other_low
+    → CoversOnEach (a ∷ high) (b ∷ low) (c ∷ other_high) (d ∷ other_low)
 covers_cons a b c d high low other_high other_low here rest zero l = here
 covers_cons a b c d high low other_high other_low here rest (suc k) l = rest k (omega arith)
 
-nonnegative_covers : (levels high low other_high other_low : List ℕ) → BothFit levels high low other_high other_low → All IsNonnegative (minus (gains levels high low) (gains levels other_high other_low)) → Covers high low other_high other_low
+nonnegative_covers : (levels high low other_high other_low : List ℕ) → BothFit levels high low other_high other_low
+    → All IsNonnegative (minus (gains levels high low) (gains levels other_high other_low)) → CoversOnEach high low other_high other_low
 nonnegative_covers [] [] low other_high other_low f all = λ k l. absurd (omega (arith, l))
 nonnegative_covers [] (a ∷ high) low other_high other_low f all = absurd (omega (arith, f.high_len))
 nonnegative_covers (n ∷ levels) [] low other_high other_low f all = absurd (omega (arith, f.high_len))
@@ -168,7 +191,8 @@ nonnegative_covers (n ∷ levels) (a ∷ high) (b ∷ low) (c ∷ other_high) (d
     let both : All IsNonnegative (minus (gain_on n a b) (gain_on n c d) ++ minus (gains levels high low) (gains levels other_high other_low)) =
     subst (All IsNonnegative) (gains-cons n a b c d levels high low other_high other_low) all in
     covers_cons a b c d high low other_high other_low
-    (gains_cover a b c d (gains_on n a b c d (f.places 0 (omega arith)) (f.other_places 0 (omega arith)) (All-first IsNonnegative (minus (gain_on n a b) (gain_on n c d)) (minus (gains levels high low) (gains levels other_high other_low)) both)))
+    (gains_cover a b c d (gains_on n a b c d (f.places 0 (omega arith)) (f.other_places 0 (omega arith))
+    (All-first IsNonnegative (minus (gain_on n a b) (gain_on n c d)) (minus (gains levels high low) (gains levels other_high other_low)) both)))
     (nonnegative_covers levels high low other_high other_low (rest_fits n a b c d levels high low other_high other_low f)
     (All-later IsNonnegative (minus (gain_on n a b) (gain_on n c d)) (minus (gains levels high low) (gains levels other_high other_low)) both))
 
@@ -206,7 +230,8 @@ left_suffices levels high low answer pair verdict high_is low_is left g f =
     (subst (λ (s : Side). CoversAnswer pair.left pair.right answer.pair answer.side ↔ Suffices levels answer pair s) (sym left)
     ((λ covers. let h = same.0 covers in record { answer_strict = h.0; verdict_strict = λ e. cc; covers = h.1 }), (λ s. same.1 (s.answer_strict, s.covers)))))
 
-pub right_suffices : (levels high low : List ℕ) (answer : Answer) (pair : Pair) (verdict : Side) → high ≡ pair.right → low ≡ pair.left → verdict ≡ Right → IsFit levels answer.pair → IsFit levels pair
+pub right_suffices : (levels high low : List ℕ) (answer : Answer) (pair : Pair) (verdict : Side) → high ≡ pair.right → low ≡ pair.left → verdict ≡ Right → IsFit levels answer.pair
+    → IsFit levels pair
     → CoversAnswer high low answer.pair answer.side ↔ Suffices levels answer pair verdict
 right_suffices levels high low answer pair verdict high_is low_is right g f =
     let same = answer_covers levels (turned pair) answer.pair answer.side (fits_turned levels pair f) g in

@@ -1,5 +1,5 @@
 -- The parts of a decision, over the rows of a dictionary that stands for the answers.
-use Rattle.std.proofs.Common.{◌≡◌, ℕ, zero, suc, ◌^◌, ◌<◌, ◌≤◌, List, ◌++◌, length, ◌⊎◌, inl, inr, ℤ, pos, negsuc, ◌*ℤ◌, ◌<ℤ◌, ◌≤ℤ◌, unsigned_abs, refl, sym, ap, subst, ◌∙◌, arith}
+use Rattle.std.proofs.Common.{◌≡◌, ℕ, zero, suc, ◌^◌, ◌<◌, ◌≤◌, List, ◌++◌, length, ◌⊎◌, inl, inr, ℤ, pos, negsuc, ◌*ℤ◌, ◌≤ℤ◌, unsigned_abs, sym, ap, subst, ◌∙◌, arith}
 use Rattle.std.specs.Prelude.{All, count_by}
 use Rattle.std.proofs.lemmas.Int.{ints}
 use Rattle.criteria_model.specs.declared.pairs.Pair.{Pair}
@@ -7,10 +7,10 @@ use Rattle.criteria_model.specs.declared.pairs.Answer.{Answer}
 use Rattle.criteria_model.specs.declared.pairs.Side.{Side}
 use Rattle.criteria_model.specs.declared.pairs.Side.TheVariants.{Left, Right, Equal}
 use Rattle.row_laws.specs.Rows.{dot, times}
-use Rattle.criteria_model.specs.Worth.{has, increments}
+use Rattle.criteria_model.specs.Worth.{increments}
 use Rattle.criteria_model.specs.Pairs.{IsFit}
-use Rattle.criteria_model.specs.Answers.{Ranks, MeetsAll, IsRanked, IsOpen, Opens, gain}
-use Rattle.row_laws.proofs.RowLemmas.{dot-minus, dot-times, length-times}
+use Rattle.criteria_model.specs.Answers.{Ranks, MeetsAll, Opens}
+use Rattle.row_laws.proofs.RowLemmas.{dot-times, length-times}
 use Rattle.row_laws.proofs.Signs.{positive_from_multiple}
 use Rattle.farkas_check.specs.declared.combination.Combination.{Combination}
 use Rattle.farkas_check.specs.Proof.{Proves}
@@ -25,15 +25,16 @@ use Rattle.decider.specs.Standing.{rows_of, rows_of_answers, StandsFor}
 use Rattle.decider.specs.Decisions.{numbers_of, weights_of, IsDecision, IsExact}
 use Rattle.decider.specs.Combining.{rows_in, EndsWithTried, Combines}
 use Rattle.decider.specs.Trying.{against, OpensRows}
-use Rattle.decider.proofs.AnswerRows.{ranks_scaled, meets_first, meets_later, meets_ranks, rows_meet_all, all_meets_rows, standing_meets, meets_standing}
+use Rattle.decider.proofs.AnswerRows.{IsReduced, ranks_scaled, meets_first, meets_later, meets_ranks, rows_meet_all, all_meets_rows, standing_meets, meets_standing}
 use Rattle.decider.proofs.CitedGains.{rows_length}
-use Rattle.decider.proofs.Verdicts.{IsCombined, tried_is_last, few_weights, ranked_of, combined_proves}
+use Rattle.decider.proofs.Verdicts.{IsCombined, tried_is_last, few_weights, combined_proves}
 use Rattle.decider.proofs.Decided.{proved_decision, proved_exact, opened_decision, opened_exact}
 use Rattle.decider.proofs.Mirror.{mirrored}
 
 -- ---- vectors without their common factor
 
-row_scaled : (columns : ℕ) (row : LoadedRow) (factor : ℤ) (values : List ℤ) → (row.least ≡ pos 0) ⊎ (row.least ≡ pos 1) → pos 1 ≤ℤ factor → row.least ≤ℤ dot row.coefficients (times factor values) → row.least ≤ℤ dot row.coefficients values
+row_scaled : (columns : ℕ) (row : LoadedRow) (factor : ℤ) (values : List ℤ) → (row.least ≡ pos 0) ⊎ (row.least ≡ pos 1) → pos 1 ≤ℤ factor
+    → row.least ≤ℤ dot row.coefficients (times factor values) → row.least ≤ℤ dot row.coefficients values
 row_scaled columns row factor values least low meets =
     from least (subst (λ (n : ℤ). row.least ≤ℤ n) (dot-times factor row.coefficients values) meets)
   where
@@ -44,40 +45,41 @@ row_scaled columns row factor values least low meets =
     nonneg (negsuc a) x h k = absurd (omega (arith, ints))
 
     from : (row.least ≡ pos 0) ⊎ (row.least ≡ pos 1) → row.least ≤ℤ (factor *ℤ dot row.coefficients values) → row.least ≤ℤ dot row.coefficients values
-    from (inl e) h = subst (λ (n : ℤ). n ≤ℤ dot row.coefficients values) (sym e) (nonneg factor (dot row.coefficients values) low (subst (λ (n : ℤ). n ≤ℤ (factor *ℤ dot row.coefficients values)) e h))
-    from (inr e) h = subst (λ (n : ℤ). n ≤ℤ dot row.coefficients values) (sym e) (positive_from_multiple factor (dot row.coefficients values) low (subst (λ (n : ℤ). n ≤ℤ (factor *ℤ dot row.coefficients values)) e h))
+    from (inl e) h = subst (λ (n : ℤ). n ≤ℤ dot row.coefficients values) (sym e)
+        (nonneg factor (dot row.coefficients values) low (subst (λ (n : ℤ). n ≤ℤ (factor *ℤ dot row.coefficients values)) e h))
+    from (inr e) h = subst (λ (n : ℤ). n ≤ℤ dot row.coefficients values) (sym e)
+        (positive_from_multiple factor (dot row.coefficients values) low (subst (λ (n : ℤ). n ≤ℤ (factor *ℤ dot row.coefficients values)) e h))
 
-rows_scaled : (d : DictionaryView) (factor : ℤ) (values : List ℤ) → IsDictionary d → pos 1 ≤ℤ factor → All (λ x. pos 1 ≤ℤ x) values → MeetsRows d.columns d.loaded (times factor values) → MeetsRows d.columns d.loaded values
+rows_scaled : (d : DictionaryView) (factor : ℤ) (values : List ℤ) → IsDictionary d → pos 1 ≤ℤ factor → All (λ x. pos 1 ≤ℤ x) values → MeetsRows d.columns d.loaded (times factor values)
+    → MeetsRows d.columns d.loaded values
 rows_scaled d factor values is low positive meets = record {
   len = sym (length-times factor values) ∙ meets.len;
   positive = positive;
   each = λ row lt. row_scaled d.columns (loaded_at d.loaded row) factor values (is.rows row lt).least low (meets.each row lt);
 }
 
-reduced_meets : (d : DictionaryView) (point given kept : List ℤ) → IsDictionary d → given ≡ point → (factor : ℤ) × (pos 1 ≤ℤ factor) × (given ≡ times factor kept) → All (λ x. pos 1 ≤ℤ x) kept → MeetsRows d.columns d.loaded point
+reduced_meets : (d : DictionaryView) (point given kept : List ℤ) → IsDictionary d → given ≡ point → (factor : ℤ) × (pos 1 ≤ℤ factor) × (given ≡ times factor kept)
+    → All (λ x. pos 1 ≤ℤ x) kept → MeetsRows d.columns d.loaded point
     → MeetsRows d.columns d.loaded kept
 reduced_meets d point given kept is same multiple positive meets =
     rows_scaled d multiple.0 kept is multiple.1 positive (subst (MeetsRows d.columns d.loaded) (sym same ∙ multiple.2) meets)
 
-reduced_ranks : (levels : List ℕ) (pair : Pair) (side : Side) (point given kept : List ℤ) → given ≡ point → (factor : ℤ) × (pos 1 ≤ℤ factor) × (given ≡ times factor kept) → Ranks levels point pair side → Ranks levels kept pair side
+reduced_ranks : (levels : List ℕ) (pair : Pair) (side : Side) (point given kept : List ℤ) → given ≡ point → (factor : ℤ) × (pos 1 ≤ℤ factor) × (given ≡ times factor kept)
+    → Ranks levels point pair side → Ranks levels kept pair side
 reduced_ranks levels pair side point given kept same multiple ranks =
     ranks_scaled levels multiple.0 kept pair side multiple.1 (subst (λ (v : List ℤ). Ranks levels v pair side) (sym same ∙ multiple.2) ranks)
 
 -- ---- two vectors that open the pair
 
-tried_ranks : (levels : List ℕ) (columns : ℕ) (loaded : List LoadedRow) (v : List ℤ) (pair : Pair) (side : Side) → columns ≡ increments levels → MeetsRows columns (loaded ++ rows_of levels pair side) v → Ranks levels v pair side
+tried_ranks : (levels : List ℕ) (columns : ℕ) (loaded : List LoadedRow) (v : List ℤ) (pair : Pair) (side : Side) → columns ≡ increments levels
+    → MeetsRows columns (loaded ++ rows_of levels pair side) v → Ranks levels v pair side
 tried_ranks levels columns loaded v pair side e meets =
     meets_ranks levels v pair side (subst (λ (n : ℕ). MeetsRows n (rows_of levels pair side) v) e (meets_later columns loaded (rows_of levels pair side) v meets))
 
--- the point, without its common divisor
-pub record IsReduced (point given kept : List ℤ) : Type 0 where
-  pub value : given ≡ point
-  pub multiple : (factor : ℤ) × (pos 1 ≤ℤ factor) × (given ≡ times factor kept)
-  pub positive : All (λ x. pos 1 ≤ℤ x) kept
-  pub reduced : IsCoprime kept
-
-pub opens_left : (levels : List ℕ) (d : DictionaryView) (pair : Pair) (side : Side) (point given kept other : List ℤ) → IsDictionary d → d.columns ≡ increments levels → side ≡ Left → IsReduced point given kept
-    → MeetsRows d.columns d.loaded point → Ranks levels point pair side → MeetsRows d.columns (d.loaded ++ rows_of levels pair (against side)) other → IsCoprime other → OpensRows levels d.columns d.loaded pair kept other
+pub opens_left : (levels : List ℕ) (d : DictionaryView) (pair : Pair) (side : Side) (point given kept other : List ℤ) → IsDictionary d → d.columns ≡ increments levels → side ≡ Left
+    → IsReduced point given kept
+    → MeetsRows d.columns d.loaded point → Ranks levels point pair side → MeetsRows d.columns (d.loaded ++ rows_of levels pair (against side)) other → IsCoprime other
+    → OpensRows levels d.columns d.loaded pair kept other
 opens_left levels d pair side point given kept other is columns e r meets ranks other_meets reduced = record {
   plus_meets = reduced_meets d point given kept is r.value r.multiple r.positive meets;
   minus_meets = meets_first d.columns d.loaded (rows_of levels pair (against side)) other other_meets;
@@ -87,8 +89,10 @@ opens_left levels d pair side point given kept other is columns e r meets ranks 
   minus_reduced = reduced;
 }
 
-pub opens_right : (levels : List ℕ) (d : DictionaryView) (pair : Pair) (side : Side) (point given kept other : List ℤ) → IsDictionary d → d.columns ≡ increments levels → side ≡ Right → IsReduced point given kept
-    → MeetsRows d.columns d.loaded point → Ranks levels point pair side → MeetsRows d.columns (d.loaded ++ rows_of levels pair (against side)) other → IsCoprime other → OpensRows levels d.columns d.loaded pair other kept
+pub opens_right : (levels : List ℕ) (d : DictionaryView) (pair : Pair) (side : Side) (point given kept other : List ℤ) → IsDictionary d → d.columns ≡ increments levels → side ≡ Right
+    → IsReduced point given kept
+    → MeetsRows d.columns d.loaded point → Ranks levels point pair side → MeetsRows d.columns (d.loaded ++ rows_of levels pair (against side)) other → IsCoprime other
+    → OpensRows levels d.columns d.loaded pair other kept
 opens_right levels d pair side point given kept other is columns e r meets ranks other_meets reduced = record {
   plus_meets = meets_first d.columns d.loaded (rows_of levels pair (against side)) other other_meets;
   minus_meets = reduced_meets d point given kept is r.value r.multiple r.positive meets;
@@ -98,7 +102,8 @@ opens_right levels d pair side point given kept other is columns e r meets ranks
   minus_reduced = r.reduced;
 }
 
-pub opens_both : (levels : List ℕ) (d : DictionaryView) (pair : Pair) (side : Side) (found other : List ℤ) → d.columns ≡ increments levels → side ≡ Equal → MeetsRows d.columns (d.loaded ++ rows_of levels pair Left) found → IsCoprime found
+pub opens_both : (levels : List ℕ) (d : DictionaryView) (pair : Pair) (side : Side) (found other : List ℤ) → d.columns ≡ increments levels → side ≡ Equal
+    → MeetsRows d.columns (d.loaded ++ rows_of levels pair Left) found → IsCoprime found
     → MeetsRows d.columns (d.loaded ++ rows_of levels pair (against side)) other → IsCoprime other → OpensRows levels d.columns d.loaded pair found other
 opens_both levels d pair side found other columns e meets found_reduced other_meets reduced = record {
   plus_meets = meets_first d.columns d.loaded (rows_of levels pair Left) found meets;
@@ -121,7 +126,8 @@ point_standing levels answers d point stands meets =
     rows_meet_all levels answers point
     (subst (λ (n : ℕ). MeetsRows n (rows_of_answers levels answers) point) stands.columns (subst (λ (l : List LoadedRow). MeetsRows d.columns l point) stands.loaded meets))
 
-pub standing_still : (levels : List ℕ) (answers : List Answer) (old new : DictionaryView) → new.columns ≡ old.columns → new.loaded ≡ old.loaded → StandsFor levels answers old → StandsFor levels answers new
+pub standing_still : (levels : List ℕ) (answers : List Answer) (old new : DictionaryView) → new.columns ≡ old.columns → new.loaded ≡ old.loaded → StandsFor levels answers old
+    → StandsFor levels answers new
 standing_still levels answers old new columns loaded stands = record { columns = columns ∙ stands.columns; loaded = loaded ∙ stands.loaded }
 
 pub rows_few : (levels : List ℕ) (answers : List Answer) (d : DictionaryView) → IsDictionary d → StandsFor levels answers d → rows_in answers ≤ 65536
@@ -134,9 +140,11 @@ standing_clash levels answers d pair side tried clash stands e is =
     (subst (λ (l : List LoadedRow). IsClash d.columns (l ++ rows_of levels pair (against side)) clash) stands.loaded
     (subst (λ (s : Side). IsClash d.columns (d.loaded ++ rows_of levels pair s) clash) e is))
 
-pub standing_ends : (levels : List ℕ) (answers : List Answer) (d : DictionaryView) (point : List ℤ) (pair : Pair) (side tried : Side) (clash : Clash) → StandsFor levels answers d → tried ≡ against side
+pub standing_ends : (levels : List ℕ) (answers : List Answer) (d : DictionaryView) (point : List ℤ) (pair : Pair) (side tried : Side) (clash : Clash) → StandsFor levels answers d
+    → tried ≡ against side
     → IsClash d.columns (d.loaded ++ rows_of levels pair tried) clash → MeetsAll levels answers point → EndsWithTried answers clash.rows
-standing_ends levels answers d point pair side tried clash stands e is meets = tried_is_last levels answers point pair side clash meets (standing_clash levels answers d pair side tried clash stands e is)
+standing_ends levels answers d point pair side tried clash stands e is meets =
+    tried_is_last levels answers point pair side clash meets (standing_clash levels answers d pair side tried clash stands e is)
 
 -- ---- decisions
 
@@ -152,7 +160,8 @@ pub record IsRefuted (levels : List ℕ) (answers : List Answer) (d : Dictionary
   pub clashes : IsClash d.columns (d.loaded ++ rows_of levels pair tried) clash
   pub combines : Combines answers clash combination
 
-combined : (levels : List ℕ) (answers : List Answer) (d : DictionaryView) (point : List ℤ) (pair : Pair) (side tried : Side) (clash : Clash) (combination : Combination) → IsRefuted levels answers d point pair side tried clash combination
+combined : (levels : List ℕ) (answers : List Answer) (d : DictionaryView) (point : List ℤ) (pair : Pair) (side tried : Side) (clash : Clash) (combination : Combination)
+    → IsRefuted levels answers d point pair side tried clash combination
     → IsCombined levels answers pair side clash combination
 combined levels answers d point pair side tried clash combination r = record {
   fit = r.fit;
@@ -162,27 +171,32 @@ combined levels answers d point pair side tried clash combination r = record {
   combines = r.combines;
 }
 
-refuted_proves : (levels : List ℕ) (answers : List Answer) (d : DictionaryView) (point : List ℤ) (pair : Pair) (side tried : Side) (clash : Clash) (combination : Combination) → IsRefuted levels answers d point pair side tried clash combination
+refuted_proves : (levels : List ℕ) (answers : List Answer) (d : DictionaryView) (point : List ℤ) (pair : Pair) (side tried : Side) (clash : Clash) (combination : Combination)
+    → IsRefuted levels answers d point pair side tried clash combination
     → Proves levels answers combination pair side
 refuted_proves levels answers d point pair side tried clash combination r =
     combined_proves levels answers pair side clash combination point (combined levels answers d point pair side tried clash combination r) r.meets r.ranks
 
-pub implied_decision : (levels : List ℕ) (answers : List Answer) (d : DictionaryView) (point : List ℤ) (pair : Pair) (side tried : Side) (clash : Clash) (combination : Combination) → IsRefuted levels answers d point pair side tried clash combination
+pub implied_decision : (levels : List ℕ) (answers : List Answer) (d : DictionaryView) (point : List ℤ) (pair : Pair) (side tried : Side) (clash : Clash) (combination : Combination)
+    → IsRefuted levels answers d point pair side tried clash combination
     → IsCoprime (numbers_of combination) → unsigned_abs combination.scale < 2 ^ 96 → IsDecision levels answers pair (Implied side combination)
 implied_decision levels answers d point pair side tried clash combination r reduced small =
     proved_decision levels answers pair side combination (refuted_proves levels answers d point pair side tried clash combination r) reduced small
 
-pub implied_exact : (levels : List ℕ) (answers : List Answer) (d : DictionaryView) (point : List ℤ) (pair : Pair) (side tried : Side) (clash : Clash) (combination : Combination) → IsRefuted levels answers d point pair side tried clash combination
+pub implied_exact : (levels : List ℕ) (answers : List Answer) (d : DictionaryView) (point : List ℤ) (pair : Pair) (side tried : Side) (clash : Clash) (combination : Combination)
+    → IsRefuted levels answers d point pair side tried clash combination
     → IsExact levels answers pair (Implied side combination)
 implied_exact levels answers d point pair side tried clash combination r =
     proved_exact levels answers pair side combination point (refuted_proves levels answers d point pair side tried clash combination r) r.meets
 
-pub implied_few : (levels : List ℕ) (answers : List Answer) (d : DictionaryView) (point : List ℤ) (pair : Pair) (side tried : Side) (clash : Clash) (combination : Combination) → IsRefuted levels answers d point pair side tried clash combination
+pub implied_few : (levels : List ℕ) (answers : List Answer) (d : DictionaryView) (point : List ℤ) (pair : Pair) (side tried : Side) (clash : Clash) (combination : Combination)
+    → IsRefuted levels answers d point pair side tried clash combination
     → count_by is_weight (weights_of combination) ≤ 24
 implied_few levels answers d point pair side tried clash combination r =
     omega (arith, few_weights levels answers pair side clash combination (combined levels answers d point pair side tried clash combination r), r.stands.columns, r.dictionary.columns_most)
 
-opens_of : (levels : List ℕ) (answers : List Answer) (d : DictionaryView) (pair : Pair) (plus minus : List ℤ) → StandsFor levels answers d → OpensRows levels d.columns d.loaded pair plus minus → Opens levels answers pair plus minus
+opens_of : (levels : List ℕ) (answers : List Answer) (d : DictionaryView) (pair : Pair) (plus minus : List ℤ) → StandsFor levels answers d
+    → OpensRows levels d.columns d.loaded pair plus minus → Opens levels answers pair plus minus
 opens_of levels answers d pair plus minus stands opens = record {
   plus_meets = point_standing levels answers d plus stands opens.plus_meets;
   minus_meets = point_standing levels answers d minus stands opens.minus_meets;
@@ -190,18 +204,21 @@ opens_of levels answers d pair plus minus stands opens = record {
   less = opens.less;
 }
 
-pub undecided_decision : (levels : List ℕ) (answers : List Answer) (d : DictionaryView) (pair : Pair) (plus minus : List ℤ) → StandsFor levels answers d → OpensRows levels d.columns d.loaded pair plus minus
+pub undecided_decision : (levels : List ℕ) (answers : List Answer) (d : DictionaryView) (pair : Pair) (plus minus : List ℤ) → StandsFor levels answers d
+    → OpensRows levels d.columns d.loaded pair plus minus
     → IsDecision levels answers pair (Undecided plus minus)
 undecided_decision levels answers d pair plus minus stands opens =
     opened_decision levels answers pair plus minus (opens_of levels answers d pair plus minus stands opens) opens.plus_reduced opens.minus_reduced
 
-pub undecided_exact : (levels : List ℕ) (answers : List Answer) (d : DictionaryView) (pair : Pair) (plus minus : List ℤ) → StandsFor levels answers d → OpensRows levels d.columns d.loaded pair plus minus
+pub undecided_exact : (levels : List ℕ) (answers : List Answer) (d : DictionaryView) (pair : Pair) (plus minus : List ℤ) → StandsFor levels answers d
+    → OpensRows levels d.columns d.loaded pair plus minus
     → IsExact levels answers pair (Undecided plus minus)
 undecided_exact levels answers d pair plus minus stands opens =
     opened_exact levels answers pair plus minus (opens_of levels answers d pair plus minus stands opens)
 
 -- where the point ranks the pair equal, there is a vector on the other side too
-pub standing_mirrored : (levels : List ℕ) (answers : List Answer) (d new : DictionaryView) (point other : List ℤ) (pair : Pair) (side tried : Side) → StandsFor levels answers d → new.columns ≡ d.columns → new.loaded ≡ d.loaded
+pub standing_mirrored : (levels : List ℕ) (answers : List Answer) (d new : DictionaryView) (point other : List ℤ) (pair : Pair) (side tried : Side) → StandsFor levels answers d
+    → new.columns ≡ d.columns → new.loaded ≡ d.loaded
     → MeetsAll levels answers point → Ranks levels point pair side → tried ≡ against side → MeetsRows d.columns (d.loaded ++ rows_of levels pair tried) other → side ≡ Equal
     → (vector : List ℤ) × MeetsRows new.columns (new.loaded ++ rows_of levels pair Left) vector
 standing_mirrored levels answers d new point other pair side tried stands columns loaded meets ranks e other_meets f =

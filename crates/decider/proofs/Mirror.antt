@@ -1,4 +1,4 @@
--- The set of vectors that meet answers is relatively open: behind a vector that ranks a pair equal, seen from one that ranks it right, stands one that ranks it left.
+-- The set of vectors that meet answers is relatively open: beyond a vector that ranks a pair equal, seen from one that ranks it right, stands one that ranks it left.
 use Rattle.std.proofs.Common.{◌≡◌, ℕ, ◌+◌, ◌*◌, ◌<◌, ◌≤◌, List, [], ◌∷◌, length, ℤ, pos, negsuc, ◌-ℤ◌, ◌*ℤ◌, ◌<ℤ◌, ◌≤ℤ◌, unsigned_abs, sym, ap, subst, ◌∙◌, arith, mul-le-mul_left}
 use Rattle.std.specs.Prelude.{All}
 use Rattle.std.proofs.lemmas.Int.{ints}
@@ -74,13 +74,15 @@ all_positive (x ∷ point) (y ∷ other) len positive =
 
 ranked_left : (levels : List ℕ) (k : ℕ) (point other : List ℤ) (pair : Pair) → Ranks levels point pair Equal → Ranks levels other pair Right → Ranks levels (mirror k point other) pair Left
 ranked_left levels k point other pair same less =
-    step (worth levels (mirror k point other) pair.left) (worth levels (mirror k point other) pair.right) (pos k *ℤ worth levels point pair.left) (pos k *ℤ worth levels point pair.right) (worth levels other pair.left) (worth levels other pair.right)
+    step (worth levels (mirror k point other) pair.left) (worth levels (mirror k point other) pair.right) (pos k *ℤ worth levels point pair.left) (pos k *ℤ worth levels point pair.right)
+    (worth levels other pair.left) (worth levels other pair.right)
     (dot_mirror k point other (has levels pair.left)) (dot_mirror k point other (has levels pair.right)) (ap (λ (n : ℤ). pos k *ℤ n) same) less
   where
     step : (l r a b x y : ℤ) → l ≡ a -ℤ x → r ≡ b -ℤ y → a ≡ b → x <ℤ y → r <ℤ l
     step l r a b x y e f g h = omega (arith, ints)
 
-pub mirrored : (levels : List ℕ) (answers : List Answer) (point other : List ℤ) (pair : Pair) → MeetsAll levels answers point → MeetsAll levels answers other → Ranks levels point pair Equal → Ranks levels other pair Right
+pub mirrored : (levels : List ℕ) (answers : List Answer) (point other : List ℤ) (pair : Pair) → MeetsAll levels answers point → MeetsAll levels answers other
+    → Ranks levels point pair Equal → Ranks levels other pair Right
     → (vector : List ℤ) × MeetsAll levels answers vector × Ranks levels vector pair Left
 mirrored levels answers point other pair meets also same less =
     let met = all_met levels point other answers meets.each also.each in

@@ -1,8 +1,7 @@
 -- One answer and the increments as a combination.
-use Rattle.std.proofs.Common.{◌≡◌, ◌⊎◌, inl, inr, ℕ, zero, suc, ◌+◌, ◌-◌, ◌*◌, ◌^◌, ◌≤◌, ◌<◌, Bool, cond, true, false, List, [], ◌∷◌, ◌++◌, Some, length, map, get_or, take, ℤ, pos, negsuc, ◌+ℤ◌, ◌-ℤ◌, ◌*ℤ◌, ◌<ℤ◌, ◌≤ℤ◌, unsigned_abs, to_z, of_z, below_more, refl, ap, ap₂, sym, subst, ◌∙◌, arith}
+use Rattle.std.proofs.Common.{◌≡◌, ◌⊎◌, inl, inr, ℕ, zero, suc, ◌+◌, ◌-◌, ◌^◌, ◌≤◌, ◌<◌, Bool, cond, true, false, List, [], ◌∷◌, ◌++◌, Some, length, get_or, take, ℤ, pos, negsuc, ◌-ℤ◌, ◌*ℤ◌, ◌≤ℤ◌, unsigned_abs, to_z, of_z, below_more, refl, ap, ap₂, sym, subst, ◌∙◌, arith}
 use mir.Syntax.{w128}
-use Rattle.std.specs.Prelude.{All, Any, count_by, slice_get, slice_set}
-use Rattle.std.specs.Int.{◌∣◌}
+use Rattle.std.specs.Prelude.{All, count_by, slice_get, slice_set}
 use Rattle.std.specs.Option.{option_map_or}
 use Rattle.std.proofs.lemmas.Int.{ints}
 use Rattle.std.proofs.lemmas.List.Elements.{All-nil, All-cons, All-head, All-tail}
@@ -13,14 +12,13 @@ use Rattle.criteria_model.specs.declared.pairs.Side.{Side}
 use Rattle.criteria_model.specs.declared.pairs.Side.TheVariants.{Left, Right, Equal}
 use Rattle.criteria_model.specs.Lists.{IsRow, IsVector}
 use Rattle.row_laws.specs.Rows.{dot, entry, minus}
-use Rattle.criteria_model.specs.Worth.{increments, IsValueVector}
+use Rattle.criteria_model.specs.Worth.{IsValueVector}
 use Rattle.criteria_model.specs.Pairs.{IsFit}
 use Rattle.criteria_model.specs.Answers.{Meets, gain}
 use Rattle.criteria_model.proofs.GainLemmas.{Favours, ranks_favours, length-gain}
 use Rattle.row_laws.proofs.RowLemmas.{length-minus, entry-minus}
 use Rattle.row_laws.proofs.Integers.{sums, one-mul}
 use Rattle.farkas_check.specs.declared.cites.Cite.{Cite}
-use Rattle.farkas_check.specs.declared.combination.Combination.{Combination}
 use Rattle.farkas_check.specs.Sums.{cited_side, cited_gain}
 use Rattle.farkas_check.specs.Proof.{Proves, MayWeigh, IsStrict, IsThere, HasStrict, IsStrictEnough}
 use Rattle.farkas_check.proofs.SumLemmas.{cited_gain-there}
@@ -38,11 +36,17 @@ pub with_proves : (levels : List ℕ) (answers : List Answer) (number : ℕ) (an
     → IsFit levels answer.pair → IsFit levels pair → Suffices levels answer pair verdict → own ≡ minus (gain levels pair verdict) (gain levels answer.pair answer.side)
     → Proves levels answers (record { scale = pos 1; increments = own; answers = (record { answer = number; weight = pos 1 }) ∷ [] }) pair verdict
 with_proves levels answers number answer pair verdict own low is fits pair_fits s own_is = record {
-  len = ap length own_is ∙ omega (arith, length-minus (gain levels pair verdict) (gain levels answer.pair answer.side), length-gain levels pair verdict pair_fits, length-gain levels answer.pair answer.side fits);
+  len = ap length own_is ∙ omega (
+    arith,
+    length-minus (gain levels pair verdict) (gain levels answer.pair answer.side),
+    length-gain levels pair verdict pair_fits,
+    length-gain levels answer.pair answer.side fits,
+  );
   scale = omega (arith, ints);
   own = subst (All (λ x. pos 0 ≤ℤ x)) (sym own_is) s.covers;
   cited = All-cons (IsThere answers) cite [] (low, omega (arith, low, slice_get_within answers (number - 1) answer is)) (All-nil (IsThere answers));
-  weights = All-cons (λ (c : Cite). MayWeigh (cited_side answers c) c.weight) cite [] (subst (λ (s : Side). MayWeigh s (pos 1)) (sym side_is) (may answer.side)) (All-nil (λ (c : Cite). MayWeigh (cited_side answers c) c.weight));
+  weights = All-cons (λ (c : Cite). MayWeigh (cited_side answers c) c.weight) cite [] (subst (λ (s : Side). MayWeigh s (pos 1)) (sym side_is) (may answer.side))
+      (All-nil (λ (c : Cite). MayWeigh (cited_side answers c) c.weight));
   sums = λ place lt.
       omega (
         arith,
@@ -72,7 +76,8 @@ with_proves levels answers number answer pair verdict own low is fits pair_fits 
     strict Right other = omega (arith, ints)
     strict Equal other = absurd (other refl)
 
-    enough : (side : Side) → (side ≡ Equal → ⊥) → HasStrict answers (record { scale = pos 1; increments = own; answers = cite ∷ [] }) → IsStrictEnough answers (record { scale = pos 1; increments = own; answers = cite ∷ [] }) side
+    enough : (side : Side) → (side ≡ Equal → ⊥) → HasStrict answers (record { scale = pos 1; increments = own; answers = cite ∷ [] })
+        → IsStrictEnough answers (record { scale = pos 1; increments = own; answers = cite ∷ [] }) side
     enough Left other some = some
     enough Right other some = some
     enough Equal other some = absurd (other refl)
@@ -81,7 +86,8 @@ with_proves levels answers number answer pair verdict own low is fits pair_fits 
 
 pub difference_kept : (x y p q : ℤ) → p ≡ x → q ≡ y → unsigned_abs x ≤ 1 → unsigned_abs y ≤ 1 → to_z w128 (of_z w128 (to_z w128 (of_z w128 p) -ℤ to_z w128 (of_z w128 q))) ≡ x -ℤ y
 difference_kept x y p q p_is q_is small also =
-    ap (λ (n : ℤ). to_z w128 (of_z w128 n)) (ap₂ (λ (a b : ℤ). a -ℤ b) (ap (λ (n : ℤ). to_z w128 (of_z w128 n)) p_is ∙ kept x (omega arith)) (ap (λ (n : ℤ). to_z w128 (of_z w128 n)) q_is ∙ kept y (omega arith)))
+    ap (λ (n : ℤ). to_z w128 (of_z w128 n)) (ap₂ (λ (a b : ℤ). a -ℤ b) (ap (λ (n : ℤ). to_z w128 (of_z w128 n)) p_is ∙ kept x (omega arith))
+    (ap (λ (n : ℤ). to_z w128 (of_z w128 n)) q_is ∙ kept y (omega arith)))
     ∙ kept (x -ℤ y) (omega (arith, ints))
 
 pub difference_step : (items others cells : List ℤ) (place : ℕ) (q : ℤ) → place < length cells → q ≡ get_or items place (pos 0) -ℤ get_or others place (pos 0)
@@ -127,7 +133,8 @@ few_over (v ∷ values) [] a e f positive small nonnegative = absurd (omega (ari
 few_over (v ∷ values) (x ∷ g) [] e f positive small nonnegative = absurd (omega (arith, f))
 few_over (v ∷ values) (x ∷ g) (y ∷ a) e f positive small nonnegative =
     step (is_weight (x -ℤ y)) refl
-    (few_over values g a (omega arith) (omega arith) (All-tail (λ z. pos 1 ≤ℤ z) v values positive) (All-tail (λ z. unsigned_abs z ≤ 1) x g small) (All-tail (λ z. pos 0 ≤ℤ z) (x -ℤ y) (minus g a) nonnegative))
+    (few_over values g a (omega arith) (omega arith) (All-tail (λ z. pos 1 ≤ℤ z) v values positive) (All-tail (λ z. unsigned_abs z ≤ 1) x g small)
+    (All-tail (λ z. pos 0 ≤ℤ z) (x -ℤ y) (minus g a) nonnegative))
     (sum_by-cons (λ (z : ℤ). cond (is_weight z) 1 0) (x -ℤ y) (minus g a))
   where
     short : count_by is_weight (minus g a) ≤ length g
@@ -153,8 +160,10 @@ few_over (v ∷ values) (x ∷ g) (y ∷ a) e f positive small nonnegative =
     step false w rest count = inl (omega (arith, count, ap {B = ℕ} (λ c. cond c 1 0) w, short))
 
 -- an answer that a vector meets gains somewhere, so that some increment has no weight of its own
-pub few_with : (levels : List ℕ) (values : List ℤ) (answer : Answer) (pair : Pair) (verdict : Side) (own : List ℤ) → IsFit levels answer.pair → IsFit levels pair → Suffices levels answer pair verdict
-    → IsRow (gain levels pair verdict) → own ≡ minus (gain levels pair verdict) (gain levels answer.pair answer.side) → IsValueVector levels values → Meets levels values answer → count_by is_weight (own ++ pos 1 ∷ []) ≤ 24
+pub few_with : (levels : List ℕ) (values : List ℤ) (answer : Answer) (pair : Pair) (verdict : Side) (own : List ℤ) → IsFit levels answer.pair → IsFit levels pair
+    → Suffices levels answer pair verdict
+    → IsRow (gain levels pair verdict) → own ≡ minus (gain levels pair verdict) (gain levels answer.pair answer.side) → IsValueVector levels values → Meets levels values answer
+    → count_by is_weight (own ++ pos 1 ∷ []) ≤ 24
 few_with levels values answer pair verdict own fits pair_fits s row own_is vector meets =
     from (few_over values g a (length-gain levels pair verdict pair_fits ∙ sym vector.len) (length-gain levels answer.pair answer.side fits ∙ sym vector.len) vector.positive row.within s.covers)
   where

@@ -129,7 +129,8 @@ none_fewer levels answers d row held lt so k le stands =
     let len : length d.loaded ≡ length (rows_of_answers levels (take k answers)) = ap length stands.loaded in
     omega (arith, len, so.row_is, rows_len-le levels answers k held le)
 
-pub none_other : (levels : List ℕ) (answers : List Answer) (d : DictionaryView) (row held : ℕ) (answer : Answer) → held < length answers → get_or answers held answer ≡ answer → row < length d.loaded → HeldSoFar levels answers d.loaded row held
+pub none_other : (levels : List ℕ) (answers : List Answer) (d : DictionaryView) (row held : ℕ) (answer : Answer) → held < length answers → get_or answers held answer ≡ answer
+    → row < length d.loaded → HeldSoFar levels answers d.loaded row held
     → (BeginsAt d.loaded (rows_of levels answer.pair answer.side) row → ⊥)
     → (k : ℕ) → k ≤ length answers → StandsFor levels (take k answers) d → ⊥
 none_other levels answers d row held answer within e lt so differs k le stands = from (cases_Bool (nat_lt held k))
@@ -140,7 +141,8 @@ none_other levels answers d row held answer within e lt so differs k le stands =
         let more : held + 1 ≤ k = let h = ltb-true held k t in omega arith in
         let rest : List LoadedRow = rows_of_answers levels (drop (held + 1) (take k answers)) in
         let whole : d.loaded ≡ (rows_of_answers levels (take held answers) ++ rows_of levels answer.pair answer.side) ++ rows_of_answers levels (drop (held + 1) (take k answers)) =
-        stands.loaded ∙ rows_part levels answers (held + 1) k more ∙ ap (λ (l : List LoadedRow). l ++ rows_of_answers levels (drop (held + 1) (take k answers))) (rows_more levels answers held answer within e) in
+        stands.loaded ∙ rows_part levels answers (held + 1) k more
+        ∙ ap (λ (l : List LoadedRow). l ++ rows_of_answers levels (drop (held + 1) (take k answers))) (rows_more levels answers held answer within e) in
         let z : 0 + length (rows_of_answers levels (take held answers)) ≡ row = omega arith ∙ sym so.row_is in
         differs (subst (BeginsAt d.loaded (rows_of levels answer.pair answer.side)) z
         (begins_later d.loaded (rows_of_answers levels (take held answers)) (rows_of levels answer.pair answer.side) 0
@@ -174,7 +176,8 @@ take_whole (x ∷ answers) = ap (λ (l : List Answer). x ∷ l) (take_whole answ
 pub rows_len-whole : (levels : List ℕ) (answers : List Answer) → length (rows_of_answers levels answers) ≤ 2 * length answers
 rows_len-whole levels answers = subst (λ (l : List Answer). length (rows_of_answers levels l) ≤ 2 * length answers) (take_whole answers) (rows_len-most levels answers (length answers))
 
-pub rows_len-lt : (levels : List ℕ) (answers : List Answer) (i j : ℕ) → i < j → j ≤ length answers → length (rows_of_answers levels (take i answers)) < length (rows_of_answers levels (take j answers))
+pub rows_len-lt : (levels : List ℕ) (answers : List Answer) (i j : ℕ) → i < j → j ≤ length answers
+    → length (rows_of_answers levels (take i answers)) < length (rows_of_answers levels (take j answers))
 rows_len-lt levels answers i zero lt le = absurd (omega arith)
 rows_len-lt levels [] i (suc j) lt le = absurd (omega arith)
 rows_len-lt levels (x ∷ answers) zero (suc j) lt le =
@@ -182,10 +185,16 @@ rows_len-lt levels (x ∷ answers) zero (suc j) lt le =
     omega (arith, length-append (rows_of levels x.pair x.side) (rows_of_answers levels (take j answers)), here)
 rows_len-lt levels (x ∷ answers) (suc i) (suc j) lt le =
     let rest = rows_len-lt levels answers i j (omega arith) (omega arith) in
-    omega (arith, length-append (rows_of levels x.pair x.side) (rows_of_answers levels (take i answers)), length-append (rows_of levels x.pair x.side) (rows_of_answers levels (take j answers)), rest)
+    omega (
+      arith,
+      length-append (rows_of levels x.pair x.side) (rows_of_answers levels (take i answers)),
+      length-append (rows_of levels x.pair x.side) (rows_of_answers levels (take j answers)),
+      rest,
+    )
 
 -- a dictionary stands for one number of answers at most
-pub one_standing : (levels : List ℕ) (answers : List Answer) (d : DictionaryView) (i j : ℕ) → i ≤ length answers → j ≤ length answers → StandsFor levels (take i answers) d → StandsFor levels (take j answers) d → i ≡ j
+pub one_standing : (levels : List ℕ) (answers : List Answer) (d : DictionaryView) (i j : ℕ) → i ≤ length answers → j ≤ length answers → StandsFor levels (take i answers) d
+    → StandsFor levels (take j answers) d → i ≡ j
 one_standing levels answers d i j li lj si sj = from (cases_Bool (nat_lt i j)) (cases_Bool (nat_lt j i))
   where
     same : length (rows_of_answers levels (take i answers)) ≡ length (rows_of_answers levels (take j answers))
@@ -235,7 +244,8 @@ pub record BroughtSoFar (levels : List ℕ) (answers : List Answer) (start now :
   pub dictionary : IsDictionary now
 
 pub brought_more : (levels : List ℕ) (answers : List Answer) (start now new : DictionaryView) (held at : ℕ) (answer : Answer) → held ≤ at → at < length answers → get_or answers at answer ≡ answer
-    → new.loaded ≡ now.loaded ++ rows_of levels answer.pair answer.side → new.columns ≡ now.columns → KeepsRoom now new → new.loads ≡ now.loads → RisesAtMost now.added new.added (length (rows_of levels answer.pair answer.side)) → IsDictionary new
+    → new.loaded ≡ now.loaded ++ rows_of levels answer.pair answer.side → new.columns ≡ now.columns → KeepsRoom now new → new.loads ≡ now.loads
+    → RisesAtMost now.added new.added (length (rows_of levels answer.pair answer.side)) → IsDictionary new
     → BroughtSoFar levels answers start now held at → BroughtSoFar levels answers start new held (at + 1)
 brought_more levels answers start now new held at answer low lt e loaded columns room loads added is so = record {
   stands = record {
@@ -256,7 +266,8 @@ pub brought_room : (levels : List ℕ) (answers : List Answer) (old start now : 
 brought_room levels answers old start now held at lt room kept so =
     omega (arith, ap length so.stands.loaded, rows_len-most levels answers at, room.rows, kept.rows, so.room.rows)
 
-pub brought_up : (levels : List ℕ) (answers : List Answer) (old start now : DictionaryView) (held at : ℕ) → length answers ≤ at → at ≤ length answers → Begun levels answers old start held → BroughtSoFar levels answers start now held at
+pub brought_up : (levels : List ℕ) (answers : List Answer) (old start now : DictionaryView) (held at : ℕ) → length answers ≤ at → at ≤ length answers → Begun levels answers old start held
+    → BroughtSoFar levels answers start now held at
     → BringsUp levels answers 0 old now
 brought_up levels answers old start now held at ge le begun so =
     let whole : at ≡ length answers = omega arith in
@@ -267,16 +278,19 @@ brought_up levels answers old start now held at ge le begun so =
       cold = λ none. let w = begun.cold none in (so.loads ∙ w.1, record { low = let a = so.added.low in omega (arith, w.2); high = let a = so.added.high in omega (arith, w.0, w.2) });
     }
 
-pub begun_is_warm : (levels : List ℕ) (answers : List Answer) (old start : DictionaryView) (held h : ℕ) → start ≡ old → held ≡ h → h ≤ length answers → StandsFor levels (take h answers) old → Begun levels answers old start held
+pub begun_is_warm : (levels : List ℕ) (answers : List Answer) (old start : DictionaryView) (held h : ℕ) → start ≡ old → held ≡ h → h ≤ length answers
+    → StandsFor levels (take h answers) old → Begun levels answers old start held
 begun_is_warm levels answers old start held h e f le stands =
     subst (λ (n : ℕ). Begun levels answers old start n) (sym f) (subst (λ (t : DictionaryView). Begun levels answers old t h) (sym e) (begun_warm levels answers old h le stands))
 
-pub begun_is_cold : (levels : List ℕ) (answers : List Answer) (old start : DictionaryView) (held columns : ℕ) → start ≡ empty_dictionary columns old.room_columns old.room_rows (next_count old.loads) old.added → held ≡ 0 → columns ≡ increments levels
+pub begun_is_cold : (levels : List ℕ) (answers : List Answer) (old start : DictionaryView) (held columns : ℕ)
+    → start ≡ empty_dictionary columns old.room_columns old.room_rows (next_count old.loads) old.added → held ≡ 0 → columns ≡ increments levels
     → ((k : ℕ) → k ≤ length answers → ¬ StandsFor levels (take k answers) old) → Begun levels answers old start held
 begun_is_cold levels answers old start held columns e f g none =
     subst (λ (n : ℕ). Begun levels answers old start n) (sym f) (subst (λ (t : DictionaryView). Begun levels answers old t 0) (sym e) (begun_cold levels answers old columns g none))
 
-pub brought_none : (levels : List ℕ) (answers : List Answer) (old start : DictionaryView) (held : ℕ) → Begun levels answers old start held → IsDictionary start → BroughtSoFar levels answers start start held held
+pub brought_none : (levels : List ℕ) (answers : List Answer) (old start : DictionaryView) (held : ℕ) → Begun levels answers old start held → IsDictionary start
+    → BroughtSoFar levels answers start start held held
 brought_none levels answers old start held begun is = record {
   stands = begun.stands;
   room = record { columns = refl; rows = refl };

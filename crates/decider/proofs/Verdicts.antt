@@ -3,7 +3,7 @@ use Rattle.std.proofs.Common.{◌≡◌, ◌≢◌, ℕ, zero, suc, ◌+◌, ◌
 use Rattle.std.specs.Prelude.{All, Any, count_by, nat_lt, ◌==◌}
 use Rattle.std.proofs.lemmas.Int.{ints}
 use Rattle.std.proofs.lemmas.Bool.{cases_Bool, eqb-true, eqb-false, ltb-true, ltb-false, true≢false}
-use Rattle.std.proofs.lemmas.List.{ext_get_or, get_or-map, length-map, length-append, length-take-le, take_more, take_all, append-nil}
+use Rattle.std.proofs.lemmas.List.{get_or-map, length-map, length-append, length-take-le, take_more, take_all, append-nil}
 use Rattle.std.proofs.lemmas.List.Sums.{sum_by-append, sum_by-cons, count_by-le-length}
 use Rattle.std.proofs.lemmas.List.Elements.{All-from_get_or}
 use Rattle.row_laws.proofs.Integers.{sums, mul-add, mul-neg, mul_assoc, mul-zero, cancel}
@@ -15,7 +15,6 @@ use Rattle.row_laws.specs.Rows.{times}
 use Rattle.criteria_model.specs.Worth.{increments}
 use Rattle.criteria_model.specs.Pairs.{IsFit, turned}
 use Rattle.criteria_model.specs.Answers.{Ranks, MeetsAll, IsRanked, gain}
-use Rattle.criteria_model.proofs.GainLemmas.{length-gain}
 use Rattle.row_laws.proofs.RowLemmas.{length-times, entry-times}
 use Rattle.farkas_check.specs.declared.cites.Cite.{Cite}
 use Rattle.farkas_check.specs.declared.combination.Combination.{Combination}
@@ -54,7 +53,8 @@ tried_is_last levels answers point pair side clash meets is =
   where
     none_beyond : All (λ item. item.row ≤ rows_in answers) clash.rows → ⊥
     none_beyond within =
-        met_is_no_clash (increments levels) (rows_of_answers levels answers) (rows_of levels pair (against side)) clash point is (all_meets_rows levels answers point meets) (leasts_nonneg levels answers)
+        met_is_no_clash (increments levels) (rows_of_answers levels answers) (rows_of levels pair (against side)) clash point is (all_meets_rows levels answers point meets)
+        (leasts_nonneg levels answers)
         (λ k x lt. let w = within k x lt in omega (arith, rows_length levels answers))
 
     last_is : (k : ℕ) → k < length clash.rows → row_at clash.rows k ≤ rows_in answers + 1
@@ -62,7 +62,8 @@ tried_is_last levels answers point pair side clash meets is =
         let w = is.loaded_rows k no_weight lt in
         omega (arith, length-append (rows_of_answers levels answers) (rows_of levels pair (against side)), rows_length levels answers, rows_for-length levels pair (against side), one_row side)
 
-    before : row_at clash.rows (length clash.rows - 1) ≢ rows_in answers + 1 → (k : ℕ) → k < length clash.rows → ((k == (length clash.rows - 1)) ≡ true) ⊎ ((k == (length clash.rows - 1)) ≡ false) → row_at clash.rows k ≤ rows_in answers
+    before : row_at clash.rows (length clash.rows - 1) ≢ rows_in answers + 1 → (k : ℕ) → k < length clash.rows
+        → ((k == (length clash.rows - 1)) ≡ true) ⊎ ((k == (length clash.rows - 1)) ≡ false) → row_at clash.rows k ≤ rows_in answers
     before ne k lt (inl e) =
         let same : k ≡ length clash.rows - 1 = eqb-true k (length clash.rows - 1) e in
         let high = last_is (length clash.rows - 1) (omega arith) in
@@ -128,7 +129,8 @@ module _ (levels : List ℕ) (answers : List Answer) (pair : Pair) (side : Side)
   own = All-from_get_or (λ weight. pos 0 ≤ℤ weight) combination.increments (pos 0) (λ k lt.
       nonneg_factor d (get_or combination.increments k (pos 0)) (get_or clash.increments k (pos 0)) c.combines.positive (c.clashes.own k (pos 0) (omega (arith, own_len, c.clashes.len))) (own_at k))
 
-  cite_at : (k : ℕ) → k < length combination.answers → get_or (times_cites d combination.answers) k no_cite ≡ record { answer = (get_or combination.answers k no_cite).answer; weight = d *ℤ (get_or combination.answers k no_cite).weight }
+  cite_at : (k : ℕ) → k < length combination.answers → get_or (times_cites d combination.answers) k no_cite
+      ≡ record { answer = (get_or combination.answers k no_cite).answer; weight = d *ℤ (get_or combination.answers k no_cite).weight }
   cite_at k lt = get_or-map (λ cite. record { answer = cite.answer; weight = d *ℤ cite.weight }) combination.answers k no_cite no_cite lt
 
   times_len : length (times_cites d combination.answers) ≡ length combination.answers
@@ -153,21 +155,25 @@ module _ (levels : List ℕ) (answers : List Answer) (pair : Pair) (side : Side)
 
   -- the clash in one increment
   clash_at : (j : ℕ) → j < increments levels
-      → d *ℤ get_or combination.increments j (pos 0) +ℤ (d *ℤ cited_sum (λ number. of j (first_row answers number)) combination.answers +ℤ (d *ℤ combination.scale) *ℤ get_or (gain levels pair (against side)) j (pos 0)) ≡ pos 0
+      → d *ℤ get_or combination.increments j (pos 0) +ℤ (d *ℤ cited_sum (λ number. of j (first_row answers number)) combination.answers
+      +ℤ (d *ℤ combination.scale) *ℤ get_or (gain levels pair (against side)) j (pos 0)) ≡ pos 0
   clash_at j lt =
-      ap (λ (n : ℤ). n +ℤ (d *ℤ cited_sum (λ number. of j (first_row answers number)) combination.answers +ℤ (d *ℤ combination.scale) *ℤ get_or (gain levels pair (against side)) j (pos 0))) (sym (own_at j))
+      ap (λ (n : ℤ). n +ℤ (d *ℤ cited_sum (λ number. of j (first_row answers number)) combination.answers
+      +ℤ (d *ℤ combination.scale) *ℤ get_or (gain levels pair (against side)) j (pos 0))) (sym (own_at j))
       ∙ ap (λ (s : ℤ). get_or clash.increments j (pos 0) +ℤ s) (sym rows_sum)
       ∙ c.clashes.sums j lt
     where
       whole : take (length clash.rows - 1 + 1) clash.rows ≡ clash.rows
       whole = take_all (length clash.rows - 1 + 1) clash.rows (let s = c.ends.some in omega arith)
 
-      rows_sum : weighted (of j) clash.rows ≡ d *ℤ cited_sum (λ number. of j (first_row answers number)) combination.answers +ℤ (d *ℤ combination.scale) *ℤ get_or (gain levels pair (against side)) j (pos 0)
+      rows_sum : weighted (of j) clash.rows ≡ d *ℤ cited_sum (λ number. of j (first_row answers number)) combination.answers
+          +ℤ (d *ℤ combination.scale) *ℤ get_or (gain levels pair (against side)) j (pos 0)
       rows_sum =
           ap (weighted (of j)) (sym whole ∙ take_more clash.rows (length clash.rows - 1) no_weight last)
           ∙ weighted-append (of j) front tried
           ∙ ap (λ (s : ℤ). s +ℤ tried.weight *ℤ of j tried.row)
-          (sym (c.combines.cites.sums (of j) (coefficients_opposed levels answers (rows_of levels pair (against side)) j)) ∙ cited_sum-times (λ number. of j (first_row answers number)) d combination.answers)
+          (sym (c.combines.cites.sums (of j) (coefficients_opposed levels answers (rows_of levels pair (against side)) j))
+          ∙ cited_sum-times (λ number. of j (first_row answers number)) d combination.answers)
           ∙ ap (λ (n : ℤ). d *ℤ cited_sum (λ number. of j (first_row answers number)) combination.answers +ℤ n *ℤ of j tried.row) c.combines.scale
           ∙ ap (λ (n : ℤ). d *ℤ cited_sum (λ number. of j (first_row answers number)) combination.answers +ℤ (d *ℤ combination.scale) *ℤ n)
           (ap (of j) c.ends.last ∙ tried_coefficient levels answers pair (against side) j)
@@ -181,9 +187,11 @@ module _ (levels : List ℕ) (answers : List Answer) (pair : Pair) (side : Side)
   sum_at : (j : ℕ) → j < increments levels
       → combination.scale *ℤ get_or (gain levels pair side) j (pos 0) ≡ get_or combination.increments j (pos 0) +ℤ cited_sum (λ number. of j (first_row answers number)) combination.answers
   sum_at j lt =
-      cancel d (combination.scale *ℤ get_or (gain levels pair side) j (pos 0)) (get_or combination.increments j (pos 0) +ℤ cited_sum (λ number. of j (first_row answers number)) combination.answers) divisor_nonzero
+      cancel d (combination.scale *ℤ get_or (gain levels pair side) j (pos 0))
+      (get_or combination.increments j (pos 0) +ℤ cited_sum (λ number. of j (first_row answers number)) combination.answers) divisor_nonzero
       (ap (λ (n : ℤ). d *ℤ (combination.scale *ℤ n)) (gain_against levels pair side j)
-      ∙ moved d combination.scale (get_or (gain levels pair (against side)) j (pos 0)) (get_or combination.increments j (pos 0)) (cited_sum (λ number. of j (first_row answers number)) combination.answers) (clash_at j lt))
+      ∙ moved d combination.scale (get_or (gain levels pair (against side)) j (pos 0)) (get_or combination.increments j (pos 0))
+      (cited_sum (λ number. of j (first_row answers number)) combination.answers) (clash_at j lt))
     where
       moved : (d s g o t : ℤ) → d *ℤ o +ℤ (d *ℤ t +ℤ (d *ℤ s) *ℤ g) ≡ pos 0 → d *ℤ (s *ℤ neg_ℤ g) ≡ d *ℤ (o +ℤ t)
       moved d s g o t e =
@@ -197,7 +205,8 @@ module _ (levels : List ℕ) (answers : List Answer) (pair : Pair) (side : Side)
       sum_at j lt
       ∙ flip (get_or combination.increments j (pos 0)) (cited_sum (λ number. of j (first_row answers number)) combination.answers)
       ∙ ap (λ (s : ℤ). s +ℤ get_or combination.increments j (pos 0))
-      (sym (sum_of_cites-is levels answers combination.answers j (λ number. of j (first_row answers number)) (cited_coefficients levels answers (rows_of levels pair (against side)) j combination.answers cited)))
+      (sym (sum_of_cites-is levels answers combination.answers j (λ number. of j (first_row answers number))
+      (cited_coefficients levels answers (rows_of levels pair (against side)) j combination.answers cited)))
     where
       flip : (a b : ℤ) → a +ℤ b ≡ b +ℤ a
       flip a b = omega (arith, sums)
@@ -293,7 +302,8 @@ ranked_of levels answers combination pair side proof v meets =
     proved_is_ranked_lem levels answers [] combination pair side proof v (subst (λ (l : List Answer). MeetsAll levels l v) (sym (append-nil answers)) meets)
 
 -- the point has the ranking, so the weights are as strict as the verdict asks
-pub combined_proves : (levels : List ℕ) (answers : List Answer) (pair : Pair) (side : Side) (clash : Clash) (combination : Combination) (point : List ℤ) → IsCombined levels answers pair side clash combination
+pub combined_proves : (levels : List ℕ) (answers : List Answer) (pair : Pair) (side : Side) (clash : Clash) (combination : Combination) (point : List ℤ)
+    → IsCombined levels answers pair side clash combination
     → MeetsAll levels answers point → Ranks levels point pair side → Proves levels answers combination pair side
 combined_proves levels answers pair Left clash combination point c meets ranks = from (has_strict_or_not answers combination)
   where

@@ -53,7 +53,8 @@ row_taken rows taken row weight are lt er ew = record {
     weak : (a : ℤ) → pos 0 <ℤ a → pos 0 ≤ℤ a
     weak a h = omega (arith, ints)
 
-pub row_none : (rows : List RowWeight) (taken row : ℕ) (weight : ℤ) → AreRowWeights rows → taken ≤ length rows → (taken < length rows → row_at rows taken ≢ row) → weight ≡ pos 0 → AreFrom rows taken row
+pub row_none : (rows : List RowWeight) (taken row : ℕ) (weight : ℤ) → AreRowWeights rows → taken ≤ length rows → (taken < length rows → row_at rows taken ≢ row) → weight ≡ pos 0
+    → AreFrom rows taken row
     → TakesRow rows taken row weight 0
 row_none rows taken row weight are le other ew from = record {
   within = omega arith;
@@ -116,7 +117,8 @@ difference_is a b h k small also =
     ∙ kept (a -ℤ b) (let size = size_of_difference a b h k small also in omega arith)
 
 -- the two rows of an equal ranking
-pub equal_taken : (rows : List RowWeight) (taken row : ℕ) (side : Side) (weight turned : ℤ) (more others : ℕ) → side ≡ Equal → TakesRow rows taken row weight more → TakesRow rows (taken + more) (row + 1) turned others
+pub equal_taken : (rows : List RowWeight) (taken row : ℕ) (side : Side) (weight turned : ℤ) (more others : ℕ) → side ≡ Equal → TakesRow rows taken row weight more
+    → TakesRow rows (taken + more) (row + 1) turned others
     → TakesRanking rows taken row side (to_z w128 (of_z w128 (to_z w128 (of_z w128 weight) -ℤ to_z w128 (of_z w128 turned)))) (more + others)
 equal_taken rows taken row side weight turned more others is takes also =
     subst (λ (s : Side). TakesRanking rows taken row s (to_z w128 (of_z w128 (to_z w128 (of_z w128 weight) -ℤ to_z w128 (of_z w128 turned)))) (more + others)) (sym is)

@@ -1,10 +1,10 @@
 -- Vectors that are known to meet answers, when answers are added or a vector is.
-use Rattle.std.proofs.Common.{◌≡◌, ◌≢◌, ℕ, ℤ, pos, ◌<ℤ◌, None, refl, ◌+◌, ◌-◌, ◌≤◌, ◌<◌, List, ◌++◌, ◌∷◌, [], Some, length, take, drop, get_or, min, ap, sym, subst, ◌∙◌, arith, length-take}
+use Rattle.std.proofs.Common.{◌≡◌, ◌≢◌, ℕ, ℤ, pos, ◌<ℤ◌, None, refl, ◌-◌, ◌≤◌, ◌<◌, List, Some, length, take, drop, get_or, ap, sym, subst, ◌∙◌, arith, length-take}
 use Rattle.std.specs.Prelude.{Option, IfSome, All, slice_get, slice_set}
 use Rattle.std.proofs.lemmas.List.{take-take, take-append-drop}
 use Rattle.std.specs.List.{swap_remove}
 use Rattle.std.proofs.lemmas.List.Elements.{All-append, All-take, All-set}
-use Rattle.std.proofs.lemmas.Option.{get_or_from_slice_get, slice_get-get_or}
+use Rattle.std.proofs.lemmas.Option.{get_or_from_slice_get}
 use Rattle.std.proofs.lemmas.Int.{ints}
 use Rattle.criteria_model.specs.declared.pairs.Pair.{Pair}
 use Rattle.criteria_model.specs.declared.pairs.Answer.{Answer}
@@ -39,7 +39,8 @@ witness_more levels known answers witness begins is = record {
 }
 
 -- with the later answers it meets all
-pub witness_meets : (levels : List ℕ) (known answers : List Answer) (witness : Witness) → BeginsWith answers known → IsWitness levels known witness → MeetsAll levels (drop witness.met answers) witness.vector
+pub witness_meets : (levels : List ℕ) (known answers : List Answer) (witness : Witness) → BeginsWith answers known → IsWitness levels known witness
+    → MeetsAll levels (drop witness.met answers) witness.vector
     → MeetsAll levels answers witness.vector
 witness_meets levels known answers witness begins is later = record {
   vector = is.vector;
@@ -47,7 +48,8 @@ witness_meets levels known answers witness begins is later = record {
       (All-append (Meets levels witness.vector) (take witness.met answers) (drop witness.met answers) (witness_more levels known answers witness begins is).meets later.each);
 }
 
-pub witness_at : (levels : List ℕ) (known : List Answer) (kept : List Witness) (place : ℕ) (read witness : Witness) → All (IsWitness levels known) kept → place < length kept → read ≡ get_or kept place read → slice_get kept place ≡ Some witness
+pub witness_at : (levels : List ℕ) (known : List Answer) (kept : List Witness) (place : ℕ) (read witness : Witness) → All (IsWitness levels known) kept → place < length kept
+    → read ≡ get_or kept place read → slice_get kept place ≡ Some witness
     → (read ≡ witness) × IsWitness levels known witness
 witness_at levels known kept place read witness all lt read_is found =
     let same : get_or kept place read ≡ witness = get_or_from_slice_get kept place witness read found in
@@ -58,7 +60,8 @@ pub meets_known : (levels : List ℕ) (known answers : List Answer) (vector : Li
 meets_known levels known answers vector begins meets = subst (All (Meets levels vector)) begins (All-take (Meets levels vector) (length known) answers meets.each)
 
 -- one that meets all the known answers is known to do so
-pub witness_all : (levels : List ℕ) (known : List Answer) (witness : Witness) → IsValueVector levels witness.vector → IsCoprime witness.vector → All (Meets levels witness.vector) known → witness.met ≡ length known
+pub witness_all : (levels : List ℕ) (known : List Answer) (witness : Witness) → IsValueVector levels witness.vector → IsCoprime witness.vector → All (Meets levels witness.vector) known
+    → witness.met ≡ length known
     → IsWitness levels known witness
 witness_all levels known witness vector coprime meets met = record {
   vector = vector;
@@ -76,7 +79,8 @@ some_weaker P Q weaker None h = h
 some_weaker P Q weaker (Some x) h = weaker x h
 
 -- a vector by which the gain is positive ranks the pair so
-pub gaining_ranks : (levels : List ℕ) (vector gain_is : List ℤ) (pair : Pair) (side : Side) → side ≢ Equal → gain_is ≡ gain levels pair side → pos 0 <ℤ dot vector gain_is → Ranks levels vector pair side
+pub gaining_ranks : (levels : List ℕ) (vector gain_is : List ℤ) (pair : Pair) (side : Side) → side ≢ Equal → gain_is ≡ gain levels pair side → pos 0 <ℤ dot vector gain_is
+    → Ranks levels vector pair side
 gaining_ranks levels vector gain_is pair side strict same positive =
     favours_ranks levels vector pair side (favours side strict (subst (λ (g : List ℤ). pos 0 <ℤ dot vector g) same positive))
   where

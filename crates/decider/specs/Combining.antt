@@ -1,6 +1,7 @@
 -- How the weighted rows of a clash become the cites of a combination.
-use Rattle.std.specs.Prelude.{ℕ, ◌+◌, ◌-◌, ◌^◌, ◌≡◌, ◌<◌, ◌≤◌, true, cond, List, [], ◌∷◌, ◌++◌, Some, length, take, map, sum_by, slice_get, slice_index_or, All, ℤ, pos, neg_ℤ, ◌+ℤ◌, ◌*ℤ◌, ◌≤ℤ◌, unsigned_abs}
+use Rattle.std.specs.Prelude.{ℕ, ◌+◌, ◌-◌, ◌≡◌, ◌<◌, ◌≤◌, true, cond, List, [], ◌∷◌, ◌++◌, Some, length, take, map, sum_by, slice_get, slice_index_or, All, ℤ, pos, neg_ℤ, ◌+ℤ◌, ◌*ℤ◌, ◌≤ℤ◌, unsigned_abs}
 use Rattle.std.specs.Int.{◌∣◌}
+use Rattle.criteria_model.specs.declared.limits.TheConstants.{CERTIFICATE_BOUND}
 use Rattle.criteria_model.specs.declared.pairs.Answer.{Answer}
 use Rattle.criteria_model.specs.declared.pairs.Side.{Side}
 use Rattle.criteria_model.specs.declared.pairs.Side.TheVariants.{Left, Right, Equal}
@@ -12,6 +13,7 @@ use Rattle.farkas_check.specs.Proof.{MayWeigh, IsThere}
 use Rattle.simplex.specs.declared.row_weights.RowWeight.{RowWeight}
 use Rattle.simplex.specs.declared.found.Clash.{Clash}
 use Rattle.simplex.specs.Weights.{is_weight, no_weight, weighted}
+use Rattle.wide_step.specs.declared.limits.TheConstants.{QUOTIENT_BOUND}
 
 -- how many rows a ranking has
 abbrev pub rows_for : Side → ℕ
@@ -40,16 +42,17 @@ pub record TakesRow (rows : List RowWeight) (taken row : ℕ) (weight : ℤ) (mo
   pub within : taken + more ≤ length rows
   pub counted : is_weight weight ≡ true → 1 ≤ more
   pub nonneg : pos 0 ≤ℤ weight
-  pub size : unsigned_abs weight < 2 ^ 96
+  pub size : unsigned_abs weight < CERTIFICATE_BOUND
   pub later : AreFrom rows (taken + more) (row + 1)
   pub sum : (of : ℕ → ℤ) → weighted of (take (taken + more) rows) ≡ weighted of (take taken rows) +ℤ weight *ℤ of row
 
--- the next `more` of the weighted rows are those of this ranking, whose first row is `row`; together they weigh `weight` on that row, where the second row of an equal ranking is the first with its sign turned
+-- the next `more` of the weighted rows are those of this ranking, whose first row is `row`; together they weigh `weight` on that row
+-- (the second row of an equal ranking is the first with its sign turned)
 pub record TakesRanking (rows : List RowWeight) (taken row : ℕ) (side : Side) (weight : ℤ) (more : ℕ) : Type 0 where
   pub within : taken + more ≤ length rows
   pub counted : is_weight weight ≡ true → 1 ≤ more
   pub may : MayWeigh side weight
-  pub size : unsigned_abs weight < 2 ^ 96
+  pub size : unsigned_abs weight < CERTIFICATE_BOUND
   pub later : AreFrom rows (taken + more) (row + rows_for side)
   pub sum : (of : ℕ → ℤ) → (side ≡ Equal → of (row + 1) ≡ neg_ℤ (of row))
       → weighted of (take (taken + more) rows) ≡ weighted of (take taken rows) +ℤ weight *ℤ of row
@@ -68,17 +71,21 @@ abbrev pub cited_sum : (ℕ → ℤ) → List Cite → ℤ
 cited_sum of [] = pos 0
 cited_sum of (cite ∷ cites) = cite.weight *ℤ of cite.answer +ℤ cited_sum of cites
 
+-- each weight is one that its answer's ranking may have
+abbrev pub EachMayWeigh : List Answer → List Cite → Type 0
+EachMayWeigh answers cites = All (λ cite. MayWeigh (cited_side answers cite) cite.weight) cites
+
 -- the cites weigh the answers as their rows are weighted
 pub record CitesRows (answers : List Answer) (rows : List RowWeight) (cites : List Cite) : Type 0 where
   pub cited : All (IsThere answers) cites
-  pub weights : All (λ cite. MayWeigh (cited_side answers cite) cite.weight) cites
+  pub weights : EachMayWeigh answers cites
   pub few : length cites ≤ length rows
   pub sums : (of : ℕ → ℤ) → IsOpposed answers of → cited_sum (λ number. of (first_row answers number)) cites ≡ weighted of rows
 
 -- the greatest common divisor of numbers that aren't all 0
 pub record IsGreatestDivisor (numbers : List ℤ) (divisor : ℤ) : Type 0 where
   pub positive : pos 1 ≤ℤ divisor
-  pub size : unsigned_abs divisor < 2 ^ 126
+  pub size : unsigned_abs divisor < QUOTIENT_BOUND
   pub divides : All (λ x. unsigned_abs divisor ∣ unsigned_abs x) numbers
   pub greatest : (d : ℕ) → All (λ x. d ∣ unsigned_abs x) numbers → d ∣ unsigned_abs divisor
 
@@ -86,7 +93,7 @@ pub record IsGreatestDivisor (numbers : List ℤ) (divisor : ℤ) : Type 0 where
 abbrev pub times_cites : ℤ → List Cite → List Cite
 times_cites factor cites = map (λ cite. record { answer = cite.answer; weight = factor *ℤ cite.weight }) cites
 
--- the last weighted row is that of a ranking behind the rows of the answers
+-- the last weighted row is that of a ranking after the rows of the answers
 pub record EndsWithTried (answers : List Answer) (rows : List RowWeight) : Type 0 where
   pub some : 1 ≤ length rows
   pub last : row_at rows (length rows - 1) ≡ rows_in answers + 1

@@ -1,5 +1,6 @@
 -- What a decision on a pair says.
-use Rattle.std.specs.Prelude.{ℕ, ◌^◌, ◌<◌, ◌≤◌, ◌≡◌, ◌↔◌, List, ◌∷◌, ◌++◌, map, count_by, ℤ, unsigned_abs}
+use Rattle.std.specs.Prelude.{ℕ, ◌<◌, ◌≤◌, ◌≡◌, ◌↔◌, List, ◌∷◌, ◌++◌, map, count_by, ℤ, unsigned_abs}
+use Rattle.criteria_model.specs.declared.limits.TheConstants.{MAX_INCREMENTS, CERTIFICATE_BOUND}
 use Rattle.criteria_model.specs.declared.pairs.Pair.{Pair}
 use Rattle.criteria_model.specs.declared.pairs.Answer.{Answer}
 use Rattle.criteria_model.specs.declared.pairs.Side.{Side}
@@ -15,11 +16,11 @@ use Rattle.decider.specs.declared.decision.Decision.TheVariants.{Undecided, Impl
 abbrev pub numbers_of : Combination → List ℤ
 numbers_of combination = combination.scale ∷ combination.increments ++ map (λ cite. cite.weight) combination.answers
 
--- two vectors that open the pair, each without a common divisor; or a combination without one, its scale below 2^96, which proves the verdict, so that this is the pair's ranking
+-- two vectors that open the pair, each without a common divisor; or a combination without one, its scale below the bound of certificates, which proves the verdict, so that this is the pair's ranking
 abbrev pub IsDecision : List ℕ → List Answer → Pair → Decision → Type 0
 IsDecision levels answers pair (Undecided plus minus) = Opens levels answers pair plus minus × IsOpen levels answers pair × IsCoprime plus × IsCoprime minus
 IsDecision levels answers pair (Implied verdict combination) =
-    Proves levels answers combination pair verdict × IsRanked levels answers pair verdict × IsCoprime (numbers_of combination) × (unsigned_abs combination.scale < 2 ^ 96)
+    Proves levels answers combination pair verdict × IsRanked levels answers pair verdict × IsCoprime (numbers_of combination) × (unsigned_abs combination.scale < CERTIFICATE_BOUND)
 
 -- it leaves the pair open
 abbrev pub IsUndecided : Decision → Type 0
@@ -40,7 +41,7 @@ pub record IsExact (levels : List ℕ) (answers : List Answer) (pair : Pair) (de
 abbrev pub weights_of : Combination → List ℤ
 weights_of combination = combination.increments ++ map (λ cite. cite.weight) combination.answers
 
--- at most 24 weights of its combination aren't 0
+-- at most as many weights of its combination as a model has increments at most aren't 0
 abbrev pub HasFewWeights : Decision → Type 0
 HasFewWeights (Undecided plus minus) = Unit {0}
-HasFewWeights (Implied verdict combination) = count_by is_weight (weights_of combination) ≤ 24
+HasFewWeights (Implied verdict combination) = count_by is_weight (weights_of combination) ≤ MAX_INCREMENTS

@@ -5,3 +5,4 @@ pub mod Trying
 pub mod OneAnswer
 pub mod Witnesses
 pub mod Reserved
+pub mod ToolDecisions

@@ -12,14 +12,14 @@ abbrev pub CoversAt : ℕ → ℕ → ℕ → ℕ → Type 0
 CoversAt high low other_high other_low = ((other_high ≤ high) × (low ≤ other_low)) ⊎ ((other_high ≤ other_low) × (low ≤ high))
 
 -- the same on each criterion
-abbrev pub Covers : List ℕ → List ℕ → List ℕ → List ℕ → Type 0
-Covers high low other_high other_low =
+abbrev pub CoversOnEach : List ℕ → List ℕ → List ℕ → List ℕ → Type 0
+CoversOnEach high low other_high other_low =
     EachIndex high (λ k. CoversAt (slice_index high k) (slice_index low k) (slice_index other_high k) (slice_index other_low k))
 
 -- the same against an answer's winner and loser; one that is equal has none
 abbrev pub CoversAnswer : List ℕ → List ℕ → Pair → Side → Type 0
-CoversAnswer high low pair Left = Covers high low pair.left pair.right
-CoversAnswer high low pair Right = Covers high low pair.right pair.left
+CoversAnswer high low pair Left = CoversOnEach high low pair.left pair.right
+CoversAnswer high low pair Right = CoversOnEach high low pair.right pair.left
 CoversAnswer high low pair Equal = ⊥
 
 -- the answer and the increments give the ranking: neither is equal, and at each increment the pair's winner gains at least what the answer's winner gains

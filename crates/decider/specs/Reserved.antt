@@ -1,5 +1,5 @@
 -- Rooms that are reserved for a model.
-use Rattle.std.specs.Prelude.{ℕ, ◌+◌, ◌*◌, ◌≤◌}
+use Rattle.std.specs.Prelude.{◌+◌, ◌*◌, ◌≤◌}
 use Rattle.criteria_model.specs.Worth.{increments}
 use Rattle.criteria_model.specs.Counts.{class_count}
 use Rattle.criteria_model.specs.Criteria.{Criteria}

@@ -46,7 +46,7 @@ pub record KeepsRoom (old new : DictionaryView) : Type 0 where
   pub columns : new.room_columns ≡ old.room_columns
   pub rows : new.room_rows ≡ old.room_rows
 
--- a count rose by at most so much, or stayed; it stands still at its last value, 2^64 - 1
+-- a count rose by at most this much, or stayed; it stands still at its last value, 2^64 - 1
 pub record RisesAtMost (before now most : ℕ) : Type 0 where
   pub low : min before (2 ^ 64 - 1) ≤ now
   pub high : now ≤ before + most

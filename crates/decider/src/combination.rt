@@ -1,5 +1,5 @@
 //! The combination that a clash gives.
-ghost use Rattle.std.specs.Prelude.{◌≡◌, ◌^◌, ◌<◌, ◌≤◌, ◌∷◌, ◌++◌, length, map, All, pos, ◌≤ℤ◌, unsigned_abs};
+ghost use Rattle.std.specs.Prelude.{◌≡◌, ◌+◌, ◌<◌, ◌≤◌, ◌∷◌, ◌++◌, length, map, All, pos, ◌≤ℤ◌, unsigned_abs};
 ghost use Rattle.std.specs.Int.{◌∣◌};
 ghost use Rattle.simplex.specs.Rows.{IsCoprime};
 ghost use Rattle.simplex.specs.Weights.{AreRowWeights};
@@ -9,19 +9,20 @@ ghost use Rattle.decider.specs.Combining.{rows_in, AreFrom, TakesRow, TakesRanki
 use crate::cite_list::CiteList;
 use crate::rows::row_count;
 use answer_rows::Answers;
-use criteria_model::{Side, Vector};
-use farkas_check::{Cites, Combination};
+use criteria_model::{CERTIFICATE_BOUND, Side, Vector};
+use farkas_check::{Cites, Combination, MAX_CITES};
+use fraction_free::MAX_ROWS;
 use simplex::{Clash, RowWeight, common_divisor, divided};
-use wide_step::gcd;
+use wide_step::{QUOTIENT_BOUND, gcd};
 
 /// The combination of a clash with a row that was tried after the rows of the answers: the scale is
 /// that row's weight, each answer has the weight of its rows, and all is over the greatest common divisor.
 pub fn combination_of(answers: &Answers, clash: &Clash) -> Combination
     requires tried { EndsWithTried answers.now.answers clash.now.rows }
-    requires small { rows_in answers.now.answers ≤ 65536 }
+    requires small { rows_in answers.now.answers ≤ MAX_ROWS }
     ensures combines { Combines answers.now.answers clash.now result }
     ensures reduced { IsCoprime (numbers_of result) }
-    ensures scale { unsigned_abs result.scale < 2 ^ 96 }
+    ensures scale { unsigned_abs result.scale < CERTIFICATE_BOUND }
 {
     let weighted = clash.rows.as_slice();
     let tried = weighted.len() - 1;
@@ -38,8 +39,8 @@ pub fn combination_of(answers: &Answers, clash: &Clash) -> Combination
 /// The cites of the answers whose rows are weighted.
 fn cited(answers: &Answers, rows: &[RowWeight]) -> Cites
     requires rows { AreRowWeights rows.now }
-    requires few { length rows.now ≤ 24 }
-    requires small { rows_in answers.now.answers ≤ 65536 }
+    requires few { length rows.now ≤ MAX_CITES }
+    requires small { rows_in answers.now.answers ≤ MAX_ROWS }
     requires within { All (λ item. item.row ≤ rows_in answers.now.answers) rows.now }
     ensures { CitesRows answers.now.answers rows.now result }
 {
@@ -61,7 +62,7 @@ fn cited(answers: &Answers, rows: &[RowWeight]) -> Cites
 fn ranking_weight(rows: &[RowWeight], taken: usize, row: u32, side: Side) -> (i128, usize)
     requires rows { AreRowWeights rows.now }
     requires numbered { 1 ≤ row }
-    requires small { row < 2 ^ 31 }
+    requires small { row ≤ MAX_ROWS + 1 }
     requires within { taken ≤ length rows.now }
     requires from { AreFrom rows.now taken row }
     ensures { TakesRanking rows.now taken row side result.0 result.1 }
@@ -94,7 +95,7 @@ fn row_weight(rows: &[RowWeight], taken: usize, row: u32) -> (i128, usize)
 /// The greatest common divisor of a positive scale and the weights.
 fn divisor_of(scale: i128, increments: &Vector, cites: &Cites) -> i128
     requires positive { pos 1 ≤ℤ scale }
-    requires size { unsigned_abs scale < 2 ^ 96 }
+    requires size { unsigned_abs scale < CERTIFICATE_BOUND }
     ensures { IsGreatestDivisor (scale ∷ increments.now ++ map (λ cite. cite.weight) cites.now) result }
 {
     let weighted = cites.as_slice();
@@ -108,7 +109,7 @@ fn divisor_of(scale: i128, increments: &Vector, cites: &Cites) -> i128
 /// The cites with their weights over a divisor of each.
 fn divided_cites(cites: &Cites, divisor: i128) -> Cites
     requires positive { pos 1 ≤ℤ divisor }
-    requires size { unsigned_abs divisor < 2 ^ 126 }
+    requires size { unsigned_abs divisor < QUOTIENT_BOUND }
     requires divides { All (λ cite. unsigned_abs divisor ∣ unsigned_abs cite.weight) cites.now }
     ensures { cites.now ≡ times_cites divisor result }
 {

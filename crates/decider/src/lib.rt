@@ -3,11 +3,14 @@
 //!
 //! `decide` works on answers that a given vector meets. A dictionary that stands for them is kept
 //! from call to call, and is loaded anew only where it stood for none of their prefixes.
-//! `point_with` solves only for an answer `equal`. All memory is taken by `Tools::reserve`.
+//! `Tools::decide` gives the same decision and solves only where neither one answer suffices
+//! (`implied_by_one`) nor two known vectors open the pair. `point_with` solves only for an answer
+//! `equal`. All memory is taken by `Tools::reserve`.
 //!
 //! Inside: `standing` brings a dictionary up to date, `trial` tries a ranking beside its rows,
 //! `combination` makes a combination of a clash, with `cite_list`; `rows` has the rows of a
-//! ranking, `decisions` and `point` the two calls.
+//! ranking, `one_answer` compares levels, `witnesses` keeps at most 96 vectors with how many
+//! answers each is known to meet; `decisions`, `tools` and `point` have the calls.
 #![tactic(auto)]
 
 mod cite_list;

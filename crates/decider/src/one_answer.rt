@@ -10,10 +10,10 @@ ghost use Rattle.farkas_check.specs.Proof.{Proves};
 ghost use Rattle.simplex.specs.Weights.{is_weight};
 ghost use Rattle.decider.specs.declared.decision.Decision.TheVariants.{Implied};
 ghost use Rattle.decider.specs.Decisions.{weights_of, IsDecision, HasFewWeights};
-ghost use Rattle.decider.specs.OneAnswer.{CoversAt, Covers, CoversAnswer, Suffices};
+ghost use Rattle.decider.specs.OneAnswer.{CoversAt, CoversOnEach, CoversAnswer, Suffices};
 
 use answer_rows::{Answer, Answers};
-use criteria_model::{Model, Pair, Row, Side, Vector};
+use criteria_model::{MAX_INCREMENTS, Model, Pair, Row, Side, Vector};
 use farkas_check::{Cite, Cites, Combination};
 
 /// A combination of one answer and the increments that proves the verdict; `None` where no answer suffices.
@@ -53,7 +53,7 @@ fn combination_with(
     requires suffices { Suffices model.now.levels answer.now pair.now verdict }
     ensures proves { (answers : List Answer) → slice_get answers (number - 1) ≡ Some answer.now → Proves model.now.levels answers result pair.now verdict }
     ensures scale { result.scale ≡ pos 1 }
-    ensures few { (values : List ℤ) → IsValueVector model.now.levels values → Meets model.now.levels values answer.now → count_by is_weight (weights_of result) ≤ 24 }
+    ensures few { (values : List ℤ) → IsValueVector model.now.levels values → Meets model.now.levels values answer.now → count_by is_weight (weights_of result) ≤ MAX_INCREMENTS }
 {
     let gain = model.gain(pair, verdict);
     let increments = excess(&gain, &model.gain(&answer.pair, answer.side));
@@ -79,7 +79,7 @@ fn excess(row: &Row, other: &Row) -> Vector
 {
     let items = row.as_slice();
     let others = other.as_slice();
-    let mut cells = [0; 24];
+    let mut cells = [0; MAX_INCREMENTS];
     for place in 0..items.len() {
         cells[place] = i128::from(items[place]) - i128::from(others[place]);
     }
@@ -122,7 +122,7 @@ fn covers(high: &[u8], low: &[u8], other_high: &[u8], other_low: &[u8]) -> bool
     requires low_len { length low.now ≡ length high.now }
     requires other_high_len { length other_high.now ≡ length high.now }
     requires other_low_len { length other_low.now ≡ length high.now }
-    ensures { IsTrue result ↔ Covers high.now low.now other_high.now other_low.now }
+    ensures { IsTrue result ↔ CoversOnEach high.now low.now other_high.now other_low.now }
 {
     for place in 0..high.len() {
         if !covers_at(high[place], low[place], other_high[place], other_low[place]) {

@@ -7,7 +7,7 @@ ghost use Rattle.fraction_free.specs.Dictionary.{IsDictionary};
 ghost use Rattle.decider.specs.Standing.{rows_of, HasRow, BeginsAt, KeepsRoom, RisesAtMost};
 
 use criteria_model::{Model, Pair, Row, Side};
-use fraction_free::Dictionary;
+use fraction_free::{Dictionary, MAX_ROWS};
 
 /// The number of its rows.
 pub fn row_count(side: Side) -> u32
@@ -35,7 +35,7 @@ fn is_row(work: &Dictionary, before: u32, coefficients: &Row, least: i8) -> bool
 pub fn has_rows(model: &Model, pair: &Pair, side: Side, work: &Dictionary, from: u32) -> bool
     requires fits { IsFit model.now.levels pair.now }
     requires from { from ≤ length work.now.loaded }
-    requires small { from ≤ 65536 }
+    requires small { from ≤ MAX_ROWS }
     ensures { IsTrue result ↔ BeginsAt work.now.loaded (rows_of model.now.levels pair.now side) from }
 {
     match side {

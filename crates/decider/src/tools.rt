@@ -1,14 +1,14 @@
 //! What a decision works with, and the way to a decision that looks first and solves last.
-ghost use Rattle.std.specs.Prelude.{List, ◌≡◌, ◌≤◌, [], length, replicate, IfOk, IfSome, All, pos};
+ghost use Rattle.std.specs.Prelude.{List, ◌≡◌, [], replicate, IfOk, IfSome, All, pos};
 ghost use Rattle.criteria_model.specs.Worth.{increments};
-ghost use Rattle.criteria_model.specs.Counts.{class_count};
 ghost use Rattle.criteria_model.specs.Pairs.{IsFit};
 ghost use Rattle.criteria_model.specs.Answers.{Ranks, MeetsAll, Opens};
 ghost use Rattle.fraction_free.specs.Dictionary.{IsDictionary};
 ghost use Rattle.simplex.specs.Rows.{IsCoprime};
-ghost use Rattle.decider.specs.Standing.{StandsFor, KeepsRoom};
-ghost use Rattle.decider.specs.Decisions.{IsDecision, IsExact, HasFewWeights};
+ghost use Rattle.decider.specs.Standing.{StandsFor};
+ghost use Rattle.decider.specs.Decisions.{IsDecision};
 ghost use Rattle.decider.specs.Reserved.{IsReserved};
+ghost use Rattle.decider.specs.ToolDecisions.{MayDecide, Decides};
 
 use crate::decision::Decision;
 use crate::decisions::decide;
@@ -70,16 +70,8 @@ impl Tools {
     /// ranking, then for two known vectors that open the pair, and only then solves: so the dictionary may be as it
     /// was, and stand for fewer answers.
     pub fn decide(&mut self, model: &Model, pair: &Pair) -> Decision
-        requires reserved { IsReserved model.now self.old }
-        requires few { length self.old.snapshot.answers.answers ≤ class_count model.now.levels model.now.degree }
-        requires answers_fit { All (λ answer. IsFit model.now.levels answer.pair) self.old.snapshot.answers.answers }
-        requires pair_fits { IsFit model.now.levels pair.now }
-        requires meets { MeetsAll model.now.levels self.old.snapshot.answers.answers self.old.snapshot.point }
-        ensures decision { IsDecision model.now.levels self.old.snapshot.answers.answers pair.now result }
-        ensures exact { IsExact model.now.levels self.old.snapshot.answers.answers pair.now result }
-        ensures few { HasFewWeights result }
-        ensures snapshot { self.new.snapshot ≡ self.old.snapshot }
-        ensures room { KeepsRoom self.old.work self.new.work }
+        requires { MayDecide model.now self.old pair.now }
+        ensures { Decides model.now self.old self.new pair.now result }
     {
         let verdict = model.ranking(&self.snapshot.point, pair);
         match implied_by_one(model, &self.snapshot.answers, pair, verdict) {
@@ -93,17 +85,9 @@ impl Tools {
 
     /// The decision by two known vectors, else by the dictionary.
     fn open_or_solve(&mut self, model: &Model, pair: &Pair, verdict: Side) -> Decision
-        requires reserved { IsReserved model.now self.old }
-        requires few { length self.old.snapshot.answers.answers ≤ class_count model.now.levels model.now.degree }
-        requires answers_fit { All (λ answer. IsFit model.now.levels answer.pair) self.old.snapshot.answers.answers }
-        requires pair_fits { IsFit model.now.levels pair.now }
-        requires meets { MeetsAll model.now.levels self.old.snapshot.answers.answers self.old.snapshot.point }
+        requires may { MayDecide model.now self.old pair.now }
         requires ranked { Ranks model.now.levels self.old.snapshot.point pair.now verdict }
-        ensures decision { IsDecision model.now.levels self.old.snapshot.answers.answers pair.now result }
-        ensures exact { IsExact model.now.levels self.old.snapshot.answers.answers pair.now result }
-        ensures few { HasFewWeights result }
-        ensures snapshot { self.new.snapshot ≡ self.old.snapshot }
-        ensures room { KeepsRoom self.old.work self.new.work }
+        ensures { Decides model.now self.old self.new pair.now result }
     {
         match opened(model, &self.snapshot, &mut self.witnesses, pair, verdict) {
             Some((plus, minus)) => Decision::Undecided { plus, minus },
@@ -113,16 +97,8 @@ impl Tools {
 
     /// The decision by the dictionary. The vectors that it finds are kept.
     fn solve(&mut self, model: &Model, pair: &Pair, verdict: Side) -> Decision
-        requires reserved { IsReserved model.now self.old }
-        requires few { length self.old.snapshot.answers.answers ≤ class_count model.now.levels model.now.degree }
-        requires answers_fit { All (λ answer. IsFit model.now.levels answer.pair) self.old.snapshot.answers.answers }
-        requires pair_fits { IsFit model.now.levels pair.now }
-        requires meets { MeetsAll model.now.levels self.old.snapshot.answers.answers self.old.snapshot.point }
-        ensures decision { IsDecision model.now.levels self.old.snapshot.answers.answers pair.now result }
-        ensures exact { IsExact model.now.levels self.old.snapshot.answers.answers pair.now result }
-        ensures few { HasFewWeights result }
-        ensures snapshot { self.new.snapshot ≡ self.old.snapshot }
-        ensures room { KeepsRoom self.old.work self.new.work }
+        requires { MayDecide model.now self.old pair.now }
+        ensures { Decides model.now self.old self.new pair.now result }
     {
         let snapshot = &self.snapshot;
         let decision = decide(

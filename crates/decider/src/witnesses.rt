@@ -39,13 +39,14 @@ pub struct Witnesses {
 
 impl std::marker::Model for Witnesses {
     ghost use Rattle.std.specs.Prelude.{◌≤◌, ◌<◌, All, vec_len, vec_capacity};
+    ghost use Rattle.decider.specs.declared.witnesses.TheConstants.{MAX_WITNESSES};
     ghost use Rattle.decider.specs.Witnesses.{IsWitness, WitnessesView};
 
     ghost Value = { WitnessesView };
 
     ghost view = { λ w. record { levels = w.model.levels; answers = w.answers; kept = w.kept.items } };
 
-    ghost invariant = { λ w. All (IsWitness w.model.levels w.answers.answers) w.kept.items × (vec_len w.kept ≤ 96) × (96 ≤ vec_capacity w.kept) × (w.next < 96) };
+    ghost invariant = { λ w. All (IsWitness w.model.levels w.answers.answers) w.kept.items × (vec_len w.kept ≤ MAX_WITNESSES) × (MAX_WITNESSES ≤ vec_capacity w.kept) × (w.next < MAX_WITNESSES) };
 }
 
 impl Witnesses {

@@ -6,7 +6,7 @@ use Rattle.criteria_model.specs.Answers.{MeetsAll}
 use Rattle.decider.specs.declared.tools.Tools.{Tools}
 use Rattle.decider.specs.Reserved.{IsReserved}
 
--- the first so many classes are decided, and at most as many are answered; the point meets the answers
+-- the first classes, up to this number, are decided, and at most as many are answered; the point meets the answers
 pub record IsUnderway (criteria : Criteria) (decided : ℕ) (tools : Tools) : Type 0 where
   pub reserved : IsReserved criteria tools
   pub most : length tools.snapshot.answers.answers ≤ decided

@@ -1,16 +1,16 @@
 //! Hidden values that answer questions.
 ghost use Rattle.std.specs.Prelude.{◌≡◌, ◌≤◌, length};
 
-use criteria_model::Vector;
+use criteria_model::{MAX_INCREMENTS, Vector};
 
 /// Values from 1 to 1,000 by a linear congruential generator of 31 bits.
 pub fn hidden_values(seed: u64, count: u8) -> Vector
     requires some { 1 ≤ count }
-    requires most { count ≤ 24 }
+    requires most { count ≤ MAX_INCREMENTS }
     ensures { length result ≡ count }
 {
     let mut state = seed;
-    let mut cells = [0; 24];
+    let mut cells = [0; MAX_INCREMENTS];
     for place in 0..usize::from(count) {
         state = next_state(state);
         cells[place] = i128::from(state / 65_536 % 1_000) + 1;

@@ -1,12 +1,10 @@
 //! A run of decisions along answers.
 ghost use Rattle.std.specs.Prelude.{◌≡◌, ◌-◌, ◌≤◌, length, All, pos, ◌≤ℤ◌};
 ghost use Rattle.criteria_model.specs.Worth.{increments, IsValueVector};
-ghost use Rattle.criteria_model.specs.Counts.{class_count};
-ghost use Rattle.criteria_model.specs.Pairs.{IsFit};
-ghost use Rattle.criteria_model.specs.Answers.{MeetsAll};
 ghost use Rattle.decider.specs.Decisions.{IsDecision};
 ghost use Rattle.decider.specs.Reserved.{IsReserved};
 ghost use Rattle.decider.specs.Standing.{KeepsRoom};
+ghost use Rattle.decider.specs.ToolDecisions.{MayDecide};
 ghost use Rattle.decision_bench.specs.Run.{IsUnderway};
 
 use crate::tally::Tally;
@@ -110,11 +108,7 @@ fn decide_next(
 
 /// What the answers say of the pair.
 fn decide_from(model: &Model, pair: &Pair, start: Start, tools: &mut Tools) -> Decision
-    requires reserved { IsReserved model.now tools.old }
-    requires few { length tools.old.snapshot.answers.answers ≤ class_count model.now.levels model.now.degree }
-    requires answers_fit { All (λ answer. IsFit model.now.levels answer.pair) tools.old.snapshot.answers.answers }
-    requires pair_fits { IsFit model.now.levels pair.now }
-    requires meets { MeetsAll model.now.levels tools.old.snapshot.answers.answers tools.old.snapshot.point }
+    requires { MayDecide model.now tools.old pair.now }
     ensures decision { IsDecision model.now.levels tools.old.snapshot.answers.answers pair.now result }
     ensures snapshot { tools.new.snapshot ≡ tools.old.snapshot }
     ensures room { KeepsRoom tools.old.work tools.new.work }

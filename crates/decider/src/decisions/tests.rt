@@ -10,24 +10,15 @@ use super::*;
 use crate::point::point_with;
 use crate::tools::Tools;
 use answer_rows::Answer;
-use criteria_model::Tuple;
+use criteria_model::{MAX_INCREMENTS, MAX_LEVEL, Tuple};
 use farkas_check::{Cite, Cites, Combination, proves};
 use std::alloc::Global;
 use std::process::Abort;
 use std::test::Fail;
 use witness_check::{meets, opens};
 
-/// A pair of three criteria, and how it is ranked.
-#[derive(Clone, Copy)]
-struct Told {
-    left: [u8; 3],
-    right: [u8; 3],
-    side: Side,
-}
-
-fn ranked(left: [u8; 3], right: [u8; 3], side: Side) -> Told {
-    Told { left, right, side }
-}
+/// Two alternatives on three criteria, and how they are ranked.
+type Ranking = ([u8; 3], [u8; 3], Side);
 
 fn pair_of(rt: &impl Abort, left: &[u8], right: &[u8]) -> Pair {
     Pair {
@@ -37,8 +28,8 @@ fn pair_of(rt: &impl Abort, left: &[u8], right: &[u8]) -> Pair {
 }
 
 fn tuple_of(rt: &impl Abort, levels: &[u8]) -> Tuple {
-    assert!(rt; !levels.is_empty() && levels.len() <= 24);
-    assert!(rt; levels.iter().all(|level| *level <= 25));
+    assert!(rt; !levels.is_empty() && levels.len() <= MAX_INCREMENTS);
+    assert!(rt; levels.iter().all(|level| *level <= MAX_LEVEL));
     Tuple::of(levels)
 }
 
@@ -69,13 +60,19 @@ fn answered(
     Ok(())
 }
 
-fn answers_of(rt: &impl Abort, alloc: Global, model: &Model, list: &[Told]) -> Result<Answers, Fail>
+fn answers_of(
+    rt: &impl Abort,
+    alloc: Global,
+    model: &Model,
+    list: &[Ranking],
+) -> Result<Answers, Fail>
     ensures { IfOk result (λ answers. All (λ answer. IsFit model.now.levels answer.pair) answers.answers) }
 {
     let mut answers = Answers::reserve(alloc, 0)?;
-    for told in list {
-        let pair = pair_of(rt, &told.left, &told.right);
-        answered(rt, model, &mut answers, pair, told.side)?;
+    for ranking in list {
+        let (left, right, side) = ranking;
+        let pair = pair_of(rt, left, right);
+        answered(rt, model, &mut answers, pair, *side)?;
     }
     Ok(answers)
 }
@@ -114,7 +111,7 @@ fn certified(
 #[derive(Clone, Copy)]
 struct Case {
     levels: [u32; 3],
-    told: [Told; 2],
+    known: [Ranking; 2],
     point: [i128; 5],
     left: [u8; 3],
     right: [u8; 3],
@@ -125,7 +122,7 @@ fn decided(rt: &impl Abort, alloc: Global, case: &Case) -> Result<Option<Side>, 
     let model = Model::new(&case.levels, 2)?;
     let increments = usize::from(model.increments());
     assert!(rt; increments <= 5);
-    let answers = answers_of(rt, alloc, &model, &case.told)?;
+    let answers = answers_of(rt, alloc, &model, &case.known)?;
     let point = values_of(rt, &model, &case.point[..increments]);
     assert!(rt; answers.len() == 2 && meets(&model, &answers, &point));
     let pair = pair_of(rt, &case.left, &case.right);
@@ -138,17 +135,9 @@ fn decided(rt: &impl Abort, alloc: Global, case: &Case) -> Result<Option<Side>, 
 const SEARCHED: [Case; 20] = [
     Case {
         levels: [2, 2, 2],
-        told: [
-            Told {
-                left: [1, 0, 2],
-                right: [2, 0, 1],
-                side: Side::Right,
-            },
-            Told {
-                left: [0, 2, 1],
-                right: [0, 1, 2],
-                side: Side::Equal,
-            },
+        known: [
+            ([1, 0, 2], [2, 0, 1], Side::Right),
+            ([0, 2, 1], [0, 1, 2], Side::Equal),
         ],
         point: [4, 2, 2, 0, 0],
         left: [2, 1, 0],
@@ -157,17 +146,9 @@ const SEARCHED: [Case; 20] = [
     },
     Case {
         levels: [2, 3, 3],
-        told: [
-            Told {
-                left: [2, 2, 0],
-                right: [1, 3, 0],
-                side: Side::Equal,
-            },
-            Told {
-                left: [0, 3, 2],
-                right: [0, 2, 3],
-                side: Side::Right,
-            },
+        known: [
+            ([2, 2, 0], [1, 3, 0], Side::Equal),
+            ([0, 3, 2], [0, 2, 3], Side::Right),
         ],
         point: [1, 1, 1, 3, 4],
         left: [1, 3, 0],
@@ -176,17 +157,9 @@ const SEARCHED: [Case; 20] = [
     },
     Case {
         levels: [3, 3, 2],
-        told: [
-            Told {
-                left: [3, 1, 1],
-                right: [2, 3, 2],
-                side: Side::Equal,
-            },
-            Told {
-                left: [1, 3, 2],
-                right: [2, 2, 1],
-                side: Side::Left,
-            },
+        known: [
+            ([3, 1, 1], [2, 3, 2], Side::Equal),
+            ([1, 3, 2], [2, 2, 1], Side::Left),
         ],
         point: [2, 4, 1, 1, 2],
         left: [3, 2, 2],
@@ -195,17 +168,9 @@ const SEARCHED: [Case; 20] = [
     },
     Case {
         levels: [2, 2, 2],
-        told: [
-            Told {
-                left: [0, 2, 1],
-                right: [0, 1, 2],
-                side: Side::Right,
-            },
-            Told {
-                left: [2, 2, 1],
-                right: [1, 1, 2],
-                side: Side::Right,
-            },
+        known: [
+            ([0, 2, 1], [0, 1, 2], Side::Right),
+            ([2, 2, 1], [1, 1, 2], Side::Right),
         ],
         point: [1, 1, 4, 0, 0],
         left: [1, 1, 2],
@@ -214,17 +179,9 @@ const SEARCHED: [Case; 20] = [
     },
     Case {
         levels: [2, 2, 2],
-        told: [
-            Told {
-                left: [2, 1, 0],
-                right: [1, 2, 0],
-                side: Side::Equal,
-            },
-            Told {
-                left: [2, 0, 1],
-                right: [1, 0, 2],
-                side: Side::Left,
-            },
+        known: [
+            ([2, 1, 0], [1, 2, 0], Side::Equal),
+            ([2, 0, 1], [1, 0, 2], Side::Left),
         ],
         point: [3, 3, 1, 0, 0],
         left: [2, 1, 2],
@@ -233,17 +190,9 @@ const SEARCHED: [Case; 20] = [
     },
     Case {
         levels: [2, 3, 3],
-        told: [
-            Told {
-                left: [1, 0, 3],
-                right: [2, 0, 1],
-                side: Side::Left,
-            },
-            Told {
-                left: [0, 1, 2],
-                right: [0, 3, 1],
-                side: Side::Right,
-            },
+        known: [
+            ([1, 0, 3], [2, 0, 1], Side::Left),
+            ([0, 1, 2], [0, 3, 1], Side::Right),
         ],
         point: [4, 3, 3, 3, 3],
         left: [2, 1, 2],
@@ -252,17 +201,9 @@ const SEARCHED: [Case; 20] = [
     },
     Case {
         levels: [2, 2, 2],
-        told: [
-            Told {
-                left: [0, 1, 2],
-                right: [0, 2, 1],
-                side: Side::Right,
-            },
-            Told {
-                left: [2, 1, 2],
-                right: [1, 2, 1],
-                side: Side::Left,
-            },
+        known: [
+            ([0, 1, 2], [0, 2, 1], Side::Right),
+            ([2, 1, 2], [1, 2, 1], Side::Left),
         ],
         point: [3, 2, 1, 0, 0],
         left: [1, 2, 1],
@@ -271,17 +212,9 @@ const SEARCHED: [Case; 20] = [
     },
     Case {
         levels: [2, 3, 3],
-        told: [
-            Told {
-                left: [1, 0, 3],
-                right: [2, 0, 2],
-                side: Side::Left,
-            },
-            Told {
-                left: [2, 1, 3],
-                right: [1, 2, 1],
-                side: Side::Left,
-            },
+        known: [
+            ([1, 0, 3], [2, 0, 2], Side::Left),
+            ([2, 1, 3], [1, 2, 1], Side::Left),
         ],
         point: [1, 2, 4, 1, 4],
         left: [2, 1, 2],
@@ -290,17 +223,9 @@ const SEARCHED: [Case; 20] = [
     },
     Case {
         levels: [3, 3, 2],
-        told: [
-            Told {
-                left: [2, 3, 1],
-                right: [1, 2, 2],
-                side: Side::Equal,
-            },
-            Told {
-                left: [2, 0, 1],
-                right: [1, 0, 2],
-                side: Side::Right,
-            },
+        known: [
+            ([2, 3, 1], [1, 2, 2], Side::Equal),
+            ([2, 0, 1], [1, 0, 2], Side::Right),
         ],
         point: [2, 4, 3, 2, 4],
         left: [1, 1, 2],
@@ -309,17 +234,9 @@ const SEARCHED: [Case; 20] = [
     },
     Case {
         levels: [2, 2, 2],
-        told: [
-            Told {
-                left: [2, 2, 1],
-                right: [1, 1, 2],
-                side: Side::Equal,
-            },
-            Told {
-                left: [1, 2, 0],
-                right: [2, 1, 0],
-                side: Side::Equal,
-            },
+        known: [
+            ([2, 2, 1], [1, 1, 2], Side::Equal),
+            ([1, 2, 0], [2, 1, 0], Side::Equal),
         ],
         point: [1, 1, 2, 0, 0],
         left: [2, 0, 1],
@@ -328,17 +245,9 @@ const SEARCHED: [Case; 20] = [
     },
     Case {
         levels: [2, 2, 2],
-        told: [
-            Told {
-                left: [2, 1, 0],
-                right: [1, 2, 0],
-                side: Side::Equal,
-            },
-            Told {
-                left: [2, 1, 1],
-                right: [1, 2, 2],
-                side: Side::Right,
-            },
+        known: [
+            ([2, 1, 0], [1, 2, 0], Side::Equal),
+            ([2, 1, 1], [1, 2, 2], Side::Right),
         ],
         point: [1, 1, 1, 0, 0],
         left: [1, 2, 0],
@@ -347,17 +256,9 @@ const SEARCHED: [Case; 20] = [
     },
     Case {
         levels: [2, 3, 3],
-        told: [
-            Told {
-                left: [0, 3, 1],
-                right: [0, 2, 2],
-                side: Side::Left,
-            },
-            Told {
-                left: [0, 2, 2],
-                right: [0, 1, 3],
-                side: Side::Equal,
-            },
+        known: [
+            ([0, 3, 1], [0, 2, 2], Side::Left),
+            ([0, 2, 2], [0, 1, 3], Side::Equal),
         ],
         point: [4, 3, 2, 1, 3],
         left: [0, 1, 3],
@@ -366,17 +267,9 @@ const SEARCHED: [Case; 20] = [
     },
     Case {
         levels: [2, 2, 2],
-        told: [
-            Told {
-                left: [0, 2, 1],
-                right: [0, 1, 2],
-                side: Side::Equal,
-            },
-            Told {
-                left: [1, 2, 0],
-                right: [2, 1, 0],
-                side: Side::Equal,
-            },
+        known: [
+            ([0, 2, 1], [0, 1, 2], Side::Equal),
+            ([1, 2, 0], [2, 1, 0], Side::Equal),
         ],
         point: [4, 4, 4, 0, 0],
         left: [2, 1, 0],
@@ -385,17 +278,9 @@ const SEARCHED: [Case; 20] = [
     },
     Case {
         levels: [2, 3, 3],
-        told: [
-            Told {
-                left: [1, 3, 0],
-                right: [2, 1, 0],
-                side: Side::Left,
-            },
-            Told {
-                left: [1, 0, 3],
-                right: [2, 0, 2],
-                side: Side::Equal,
-            },
+        known: [
+            ([1, 3, 0], [2, 1, 0], Side::Left),
+            ([1, 0, 3], [2, 0, 2], Side::Equal),
         ],
         point: [2, 3, 4, 2, 2],
         left: [2, 0, 2],
@@ -404,17 +289,9 @@ const SEARCHED: [Case; 20] = [
     },
     Case {
         levels: [2, 3, 3],
-        told: [
-            Told {
-                left: [1, 0, 2],
-                right: [2, 0, 1],
-                side: Side::Equal,
-            },
-            Told {
-                left: [1, 1, 2],
-                right: [2, 3, 1],
-                side: Side::Right,
-            },
+        known: [
+            ([1, 0, 2], [2, 0, 1], Side::Equal),
+            ([1, 1, 2], [2, 3, 1], Side::Right),
         ],
         point: [4, 4, 3, 4, 3],
         left: [2, 0, 1],
@@ -423,17 +300,9 @@ const SEARCHED: [Case; 20] = [
     },
     Case {
         levels: [2, 3, 3],
-        told: [
-            Told {
-                left: [0, 1, 2],
-                right: [0, 2, 1],
-                side: Side::Left,
-            },
-            Told {
-                left: [1, 2, 1],
-                right: [2, 1, 2],
-                side: Side::Right,
-            },
+        known: [
+            ([0, 1, 2], [0, 2, 1], Side::Left),
+            ([1, 2, 1], [2, 1, 2], Side::Right),
         ],
         point: [3, 1, 4, 2, 1],
         left: [1, 2, 3],
@@ -442,17 +311,9 @@ const SEARCHED: [Case; 20] = [
     },
     Case {
         levels: [2, 3, 3],
-        told: [
-            Told {
-                left: [1, 0, 3],
-                right: [2, 0, 1],
-                side: Side::Left,
-            },
-            Told {
-                left: [0, 1, 3],
-                right: [0, 3, 2],
-                side: Side::Right,
-            },
+        known: [
+            ([1, 0, 3], [2, 0, 1], Side::Left),
+            ([0, 1, 3], [0, 3, 2], Side::Right),
         ],
         point: [1, 3, 3, 3, 4],
         left: [2, 2, 1],
@@ -461,17 +322,9 @@ const SEARCHED: [Case; 20] = [
     },
     Case {
         levels: [2, 3, 3],
-        told: [
-            Told {
-                left: [2, 1, 3],
-                right: [1, 3, 2],
-                side: Side::Right,
-            },
-            Told {
-                left: [1, 2, 1],
-                right: [2, 1, 3],
-                side: Side::Right,
-            },
+        known: [
+            ([2, 1, 3], [1, 3, 2], Side::Right),
+            ([1, 2, 1], [2, 1, 3], Side::Right),
         ],
         point: [2, 3, 3, 1, 3],
         left: [1, 2, 3],
@@ -480,17 +333,9 @@ const SEARCHED: [Case; 20] = [
     },
     Case {
         levels: [3, 3, 2],
-        told: [
-            Told {
-                left: [1, 3, 0],
-                right: [2, 1, 0],
-                side: Side::Left,
-            },
-            Told {
-                left: [2, 3, 2],
-                right: [3, 2, 1],
-                side: Side::Left,
-            },
+        known: [
+            ([1, 3, 0], [2, 1, 0], Side::Left),
+            ([2, 3, 2], [3, 2, 1], Side::Left),
         ],
         point: [3, 3, 4, 4, 2],
         left: [3, 2, 0],
@@ -499,17 +344,9 @@ const SEARCHED: [Case; 20] = [
     },
     Case {
         levels: [3, 3, 2],
-        told: [
-            Told {
-                left: [2, 2, 1],
-                right: [1, 3, 2],
-                side: Side::Right,
-            },
-            Told {
-                left: [1, 3, 0],
-                right: [3, 2, 0],
-                side: Side::Right,
-            },
+        known: [
+            ([2, 2, 1], [1, 3, 2], Side::Right),
+            ([1, 3, 0], [3, 2, 0], Side::Right),
         ],
         point: [2, 2, 1, 3, 1],
         left: [2, 2, 1],
@@ -531,11 +368,11 @@ fn searched_decisions(rt: HostRuntime) -> Result<(), Fail> {
 fn decide_implied(rt: HostRuntime) -> Result<(), Fail> {
     let model = Model::new(&[2, 2, 2], 3)?;
     assert_eq!(rt; model.increments(), 3);
-    let told = [
-        ranked([2, 1, 0], [1, 2, 0], Side::Left),
-        ranked([0, 2, 1], [0, 1, 2], Side::Left),
+    let known = [
+        ([2, 1, 0], [1, 2, 0], Side::Left),
+        ([0, 2, 1], [0, 1, 2], Side::Left),
     ];
-    let answers = answers_of(&rt, rt.alloc(), &model, &told)?;
+    let answers = answers_of(&rt, rt.alloc(), &model, &known)?;
     let point = values_of(&rt, &model, &[3, 2, 1]);
     assert!(rt; answers.len() == 2 && meets(&model, &answers, &point));
     let pair = pair_of(&rt, &[2, 0, 1], &[1, 0, 2]);
@@ -571,12 +408,12 @@ fn decide_implied(rt: HostRuntime) -> Result<(), Fail> {
 fn decide_all_implied(rt: HostRuntime) -> Result<(), Fail> {
     let model = Model::new(&[2, 2, 2], 3)?;
     assert_eq!(rt; model.increments(), 3);
-    let told = [
-        ranked([2, 1, 0], [1, 2, 0], Side::Left),
-        ranked([2, 0, 1], [1, 0, 2], Side::Left),
-        ranked([0, 2, 1], [0, 1, 2], Side::Left),
+    let known = [
+        ([2, 1, 0], [1, 2, 0], Side::Left),
+        ([2, 0, 1], [1, 0, 2], Side::Left),
+        ([0, 2, 1], [0, 1, 2], Side::Left),
     ];
-    let answers = answers_of(&rt, rt.alloc(), &model, &told)?;
+    let answers = answers_of(&rt, rt.alloc(), &model, &known)?;
     let point = values_of(&rt, &model, &[3, 2, 1]);
     assert!(rt; answers.len() == 3 && meets(&model, &answers, &point));
     let cases = [
@@ -630,7 +467,12 @@ fn numbered_pair(rt: &impl Abort, number: u8, left_level: u8, right_level: u8) -
 }
 
 /// Forty answers, as the vector gives them.
-fn told_by(rt: &impl Abort, alloc: Global, model: &Model, point: &Vector) -> Result<Answers, Fail>
+fn answers_by(
+    rt: &impl Abort,
+    alloc: Global,
+    model: &Model,
+    point: &Vector,
+) -> Result<Answers, Fail>
     requires { IsValueVector model.now.levels point.now }
     ensures { IfOk result (λ answers. All (λ answer. IsFit model.now.levels answer.pair) answers.answers) }
 {
@@ -680,7 +522,7 @@ fn forty_answers(rt: HostRuntime) -> Result<(), Fail> {
             7, 31, 4, 12, 9, 26, 3, 18, 5, 22, 14, 8, 2, 41, 6, 11, 17, 29, 13, 1, 37, 10, 19, 23,
         ],
     );
-    let answers = told_by(&rt, rt.alloc(), &model, &point)?;
+    let answers = answers_by(&rt, rt.alloc(), &model, &point)?;
     assert!(rt; answers.len() == 40 && meets(&model, &answers, &point));
     let mut work = Dictionary::reserve(rt.alloc(), 24, 82)?;
     let open = open_pairs(&rt, &model, &answers, &point, &mut work);

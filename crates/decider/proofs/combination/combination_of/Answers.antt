@@ -56,7 +56,8 @@ module _ (c : After-divided_cites) where
   divisor_kept = kept c.divisor_of-divisor.result c.divisor_of-divisor.ensures.size
 
   greatest : IsGreatestDivisor (tried ∷ c.args.clash.now.increments ++ map (λ cite. cite.weight) c.cited-cites.result) c.divisor_of-divisor.result
-  greatest = subst (λ (n : ℤ). IsGreatestDivisor (n ∷ c.args.clash.now.increments ++ map (λ cite. cite.weight) c.cited-cites.result) c.divisor_of-divisor.result) tried_kept c.divisor_of-divisor.ensures
+  greatest = subst (λ (n : ℤ). IsGreatestDivisor (n ∷ c.args.clash.now.increments ++ map (λ cite. cite.weight) c.cited-cites.result) c.divisor_of-divisor.result) tried_kept
+      c.divisor_of-divisor.ensures
 
   abbrev scale : ℤ
   scale = to_z w128 (of_z w128 (quot_z (to_z w128 (of_z w128 tried)) (to_z w128 (of_z w128 c.divisor_of-divisor.result))))
@@ -73,7 +74,8 @@ module _ (c : After-divided_cites) where
 
 pub returns-clause-combines : goal.returns-clause-combines
 returns-clause-combines c =
-    divided_combines c.args.answers.now.answers c.args.clash.now c.as_slice-weighted.result.now c.args.clash.now.increments c.cited-cites.result c.divisor_of-divisor.result (scale c) c.divided.result c.divided_cites.result
+    divided_combines c.args.answers.now.answers c.args.clash.now c.as_slice-weighted.result.now c.args.clash.now.increments c.cited-cites.result c.divisor_of-divisor.result
+    (scale c) c.divided.result c.divided_cites.result
     c.as_slice-weighted.ensures.value refl c.cited-cites.ensures (are c)
 
 pub returns-clause-reduced : goal.returns-clause-reduced

@@ -23,7 +23,8 @@ pub loop-cite-preserved : goal.loop-cite-preserved
 loop-cite-preserved c =
     let scale : to_z w128 (of_z w128 c.args.scale) ≡ c.args.scale = kept c.args.scale (omega (arith, c.requires.size)) in
     let small = (c.as_slice-weighted.ensures.range.each c.loop-cite.cite-index no_cite c.loop-cite-test.true).within in
-    subst (DividesSoFar (to_z w128 (of_z w128 c.args.scale)) c.args.increments.now c.as_slice-weighted.result.now _) (sym (kept c.gcd-divisor-in-loop-cite.result c.gcd-divisor-in-loop-cite.ensures.size))
+    subst (DividesSoFar (to_z w128 (of_z w128 c.args.scale)) c.args.increments.now c.as_slice-weighted.result.now _)
+    (sym (kept c.gcd-divisor-in-loop-cite.result c.gcd-divisor-in-loop-cite.ensures.size))
     (divides_next (to_z w128 (of_z w128 c.args.scale)) _ _ c.gcd-divisor-in-loop-cite.result c.args.increments.now c.as_slice-weighted.result.now c.loop-cite.cite-index c.loop-cite-test.true
     (kept (get_or c.as_slice-weighted.result.now c.loop-cite.cite-index no_cite).weight (omega arith))
     c.gcd-divisor-in-loop-cite.ensures.greatest c.gcd-divisor-in-loop-cite.ensures.never_negative c.gcd-divisor-in-loop-cite.ensures.size

@@ -1,4 +1,4 @@
-use Rattle.std.proofs.Common.{◌≡◌, ◌≤◌, pos, ap, ap₂, length, sym, subst, ◌∙◌}
+use Rattle.std.proofs.Common.{◌≤◌, pos, ap, ap₂, length, sym, subst, ◌∙◌}
 use Rattle.std.specs.Prelude.{count_by}
 use Rattle.criteria_model.specs.Lists.{IsRow}
 use Rattle.row_laws.specs.Rows.{minus}
@@ -16,7 +16,8 @@ excess-increments-requires c =
 
 pub returns-clause-proves : goal.returns-clause-proves
 returns-clause-proves c answers is =
-    subst (λ cites. Proves c.args.model.now.levels answers (record { scale = pos 1; increments = c.excess-increments.result; answers = cites }) c.args.pair.now c.args.verdict) (sym c.in-Some.ensures.value)
+    subst (λ cites. Proves c.args.model.now.levels answers (record { scale = pos 1; increments = c.excess-increments.result; answers = cites }) c.args.pair.now c.args.verdict)
+    (sym c.in-Some.ensures.value)
     (with_proves c.args.model.now.levels answers c.args.number c.args.answer.now c.args.pair.now c.args.verdict c.excess-increments.result
     c.requires.numbered is c.requires.answer_fits c.requires.pair_fits c.requires.suffices
     (c.excess-increments.ensures.value ∙ ap₂ minus c.gain-gain.ensures c.gain.ensures))

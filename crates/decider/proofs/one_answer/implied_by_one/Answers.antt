@@ -1,4 +1,4 @@
-use Rattle.std.proofs.Common.{◌≡◌, ℕ, ◌+◌, ◌-◌, ◌<◌, ◌≤◌, ◌^◌, Some, get_or, unsigned_abs, below_more, sym, ap, subst, ◌∙◌, arith}
+use Rattle.std.proofs.Common.{◌≡◌, ℕ, ◌+◌, ◌-◌, Some, get_or, unsigned_abs, below_more, sym, ap, subst, ◌∙◌, arith}
 use Rattle.std.specs.Prelude.{slice_get}
 use Rattle.std.proofs.lemmas.Bool.{true≢false}
 use Rattle.std.proofs.lemmas.Option.{slice_get-get_or}
@@ -11,11 +11,13 @@ use Rattle.decider.proofs.one_answer.implied_by_one.Goals as goal
 
 pub loop-at-preserved : goal.loop-at-preserved
 loop-at-preserved c =
-    below_more (λ k. (answer : Answer) → slice_get c.args.answers.now.answers k ≡ Some answer → ¬ Suffices c.args.model.now.levels answer c.args.pair.now c.args.verdict) c.loop-at.at c.loop-at.invariant
+    below_more (λ k. (answer : Answer) → slice_get c.args.answers.now.answers k ≡ Some answer → ¬ Suffices c.args.model.now.levels answer c.args.pair.now c.args.verdict) c.loop-at.at
+    c.loop-at.invariant
     (λ answer is suffices.
     let at : c.loop-at.at + 1 - 1 ≡ c.loop-at.at = omega arith in
     let same : c.answer-answer.result ≡ answer =
-    let found : slice_get c.args.answers.now.answers c.loop-at.at ≡ Some c.answer-answer.result = subst (λ (k : ℕ). slice_get c.args.answers.now.answers k ≡ Some c.answer-answer.result) at c.answer-answer.ensures in cc in
+    let found : slice_get c.args.answers.now.answers c.loop-at.at ≡ Some c.answer-answer.result =
+    subst (λ (k : ℕ). slice_get c.args.answers.now.answers k ≡ Some c.answer-answer.result) at c.answer-answer.ensures in cc in
     true≢false (sym (c.suffices.ensures.1 (subst (λ (a : Answer). Suffices c.args.model.now.levels a c.args.pair.now c.args.verdict) (sym same) suffices)) ∙ c.if-suffices.false))
 
 pub returns-then-suffices-clause-implied : goal.returns-then-suffices-clause-implied

@@ -11,8 +11,10 @@ use Rattle.decider.proofs.standing.bring_up.Goals.{in-Some, in-None}
 pub loop-at-init : goal.loop-at-init
 loop-at-init c =
     let begun : Begun c.args.model.now.levels c.args.answers.now.answers c.args.work.now c.match-standing.work c.match-standing.held = elim c.match-standing.branch [
-      | in-Some w ↦ begun_is_warm c.args.model.now.levels c.args.answers.now.answers c.args.work.now c.match-standing.work c.match-standing.held w.in-Some.held w.work-is w.held-is w.in-Some.ensures.standing.0 w.in-Some.ensures.standing.1
-      | in-None w ↦ begun_is_cold c.args.model.now.levels c.args.answers.now.answers c.args.work.now c.match-standing.work c.match-standing.held w.increments.result (w.work-is ∙ w.load.ensures.empty) w.held-is w.increments.ensures.value w.in-None.ensures.standing
+      | in-Some w ↦ begun_is_warm c.args.model.now.levels c.args.answers.now.answers c.args.work.now c.match-standing.work c.match-standing.held w.in-Some.held w.work-is w.held-is
+          w.in-Some.ensures.standing.0 w.in-Some.ensures.standing.1
+      | in-None w ↦ begun_is_cold c.args.model.now.levels c.args.answers.now.answers c.args.work.now c.match-standing.work c.match-standing.held w.increments.result
+          (w.work-is ∙ w.load.ensures.empty) w.held-is w.increments.ensures.value w.in-None.ensures.standing
     ] in
     let dictionary : IsDictionary c.match-standing.work = elim c.match-standing.branch [
       | in-Some w ↦ subst (λ (t : DictionaryView). IsDictionary t) (sym w.work-is) w.in-Some.ensures.dictionary
@@ -30,10 +32,13 @@ add_rows-requires-clause-fits c =
 pub add_rows-requires-clause-room : goal.add_rows-requires-clause-room
 add_rows-requires-clause-room c =
     let begun : Begun c.args.model.now.levels c.args.answers.now.answers c.args.work.now c.match-standing.work c.match-standing.held = elim c.match-standing.branch [
-      | in-Some w ↦ begun_is_warm c.args.model.now.levels c.args.answers.now.answers c.args.work.now c.match-standing.work c.match-standing.held w.in-Some.held w.work-is w.held-is w.in-Some.ensures.standing.0 w.in-Some.ensures.standing.1
-      | in-None w ↦ begun_is_cold c.args.model.now.levels c.args.answers.now.answers c.args.work.now c.match-standing.work c.match-standing.held w.increments.result (w.work-is ∙ w.load.ensures.empty) w.held-is w.increments.ensures.value w.in-None.ensures.standing
+      | in-Some w ↦ begun_is_warm c.args.model.now.levels c.args.answers.now.answers c.args.work.now c.match-standing.work c.match-standing.held w.in-Some.held w.work-is w.held-is
+          w.in-Some.ensures.standing.0 w.in-Some.ensures.standing.1
+      | in-None w ↦ begun_is_cold c.args.model.now.levels c.args.answers.now.answers c.args.work.now c.match-standing.work c.match-standing.held w.increments.result
+          (w.work-is ∙ w.load.ensures.empty) w.held-is w.increments.ensures.value w.in-None.ensures.standing
     ] in
-    brought_room c.args.model.now.levels c.args.answers.now.answers c.args.work.now c.match-standing.work c.loop-at.work c.match-standing.held c.loop-at.at (omega (arith, c.len-at-end.ensures.value)) c.requires.room begun.room c.loop-at.invariant
+    brought_room c.args.model.now.levels c.args.answers.now.answers c.args.work.now c.match-standing.work c.loop-at.work c.match-standing.held c.loop-at.at
+    (omega (arith, c.len-at-end.ensures.value)) c.requires.room begun.room c.loop-at.invariant
 
 pub loop-at-preserved : goal.loop-at-preserved
 loop-at-preserved c =
@@ -41,13 +46,16 @@ loop-at-preserved c =
     let here : get_or c.args.answers.now.answers c.loop-at.at c.answer-answer.result ≡ c.answer-answer.result =
     get_or_from_slice_get c.args.answers.now.answers c.loop-at.at c.answer-answer.result c.answer-answer.result (ap (slice_get c.args.answers.now.answers) (sym place) ∙ c.answer-answer.ensures) in
     brought_more c.args.model.now.levels c.args.answers.now.answers c.match-standing.work c.loop-at.work c.add_rows.new.work c.match-standing.held c.loop-at.at c.answer-answer.result
-    c.loop-at.auto.at (omega (arith, c.len-at-end.ensures.value)) here c.add_rows.ensures.loaded c.add_rows.ensures.columns c.add_rows.ensures.room c.add_rows.ensures.loads c.add_rows.ensures.added c.add_rows.ensures.dictionary c.loop-at.invariant
+    c.loop-at.auto.at (omega (arith, c.len-at-end.ensures.value)) here c.add_rows.ensures.loaded c.add_rows.ensures.columns c.add_rows.ensures.room c.add_rows.ensures.loads
+    c.add_rows.ensures.added c.add_rows.ensures.dictionary c.loop-at.invariant
 
 pub returns-clause-up : goal.returns-clause-up
 returns-clause-up c =
     let begun : Begun c.args.model.now.levels c.args.answers.now.answers c.args.work.now c.match-standing.work c.match-standing.held = elim c.match-standing.branch [
-      | in-Some w ↦ begun_is_warm c.args.model.now.levels c.args.answers.now.answers c.args.work.now c.match-standing.work c.match-standing.held w.in-Some.held w.work-is w.held-is w.in-Some.ensures.standing.0 w.in-Some.ensures.standing.1
-      | in-None w ↦ begun_is_cold c.args.model.now.levels c.args.answers.now.answers c.args.work.now c.match-standing.work c.match-standing.held w.increments.result (w.work-is ∙ w.load.ensures.empty) w.held-is w.increments.ensures.value w.in-None.ensures.standing
+      | in-Some w ↦ begun_is_warm c.args.model.now.levels c.args.answers.now.answers c.args.work.now c.match-standing.work c.match-standing.held w.in-Some.held w.work-is w.held-is
+          w.in-Some.ensures.standing.0 w.in-Some.ensures.standing.1
+      | in-None w ↦ begun_is_cold c.args.model.now.levels c.args.answers.now.answers c.args.work.now c.match-standing.work c.match-standing.held w.increments.result
+          (w.work-is ∙ w.load.ensures.empty) w.held-is w.increments.ensures.value w.in-None.ensures.standing
     ] in
     let most = begun.most in
     let end = c.loop-at.auto.at-end in

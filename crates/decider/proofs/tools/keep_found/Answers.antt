@@ -1,5 +1,4 @@
 use Rattle.std.proofs.Common.{subst}
-use Rattle.decider.specs.declared.decision.Decision.{Decision}
 use Rattle.decider.specs.Decisions.{IsDecision}
 use Rattle.decider.proofs.tools.keep_found.Goals as goal
 

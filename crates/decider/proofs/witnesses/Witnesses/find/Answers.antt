@@ -1,4 +1,4 @@
-use Rattle.std.proofs.Common.{◌≡◌, ℤ, pos, ◌<ℤ◌, List, length, ap, sym, ◌∙◌}
+use Rattle.std.proofs.Common.{pos, ◌<ℤ◌, length, ap, sym, ◌∙◌}
 use Rattle.row_laws.specs.Rows.{dot}
 use Rattle.criteria_model.specs.Worth.{increments}
 use Rattle.criteria_model.specs.Answers.{Ranks, MeetsAll}

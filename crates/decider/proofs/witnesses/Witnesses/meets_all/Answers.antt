@@ -10,7 +10,8 @@ use Rattle.decider.proofs.witnesses.Witnesses.meets_all.Goals as goal
 pub returns : goal.returns
 returns c met witness found =
     let levels : c.self.inside.model.levels ≡ c.args.model.now.levels = ap (λ view. view.levels) c.self.view_is ∙ c.requires.levels in
-    let begins : BeginsWith c.args.answers.now.answers c.self.inside.answers.answers = subst (λ (known : AnswersWithRoom). BeginsWith c.args.answers.now.answers known.answers) (sym (ap (λ view. view.answers) c.self.view_is)) c.requires.begins in
+    let begins : BeginsWith c.args.answers.now.answers c.self.inside.answers.answers = subst (λ (known : AnswersWithRoom). BeginsWith c.args.answers.now.answers known.answers)
+    (sym (ap (λ view. view.answers) c.self.view_is)) c.requires.begins in
     let kept : c.self.inside.kept.items ≡ c.args.self.now.kept = ap (λ view. view.kept) c.self.view_is in
     let at = witness_at c.self.inside.model.levels c.self.inside.answers.answers c.self.inside.kept.items c.args.place c.index-witness.result.now witness c.self.invariant.0
     (omega (arith, c.requires.within, ap length kept)) c.index-witness.ensures (subst (λ (l : List Witness). slice_get l c.args.place ≡ Some witness) (sym kept) found) in

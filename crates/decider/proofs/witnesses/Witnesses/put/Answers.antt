@@ -1,4 +1,4 @@
-use Rattle.std.proofs.Common.{◌≡◌, ℕ, List, length, subst, sym, arith}
+use Rattle.std.proofs.Common.{subst, sym, arith}
 use Rattle.std.specs.Prelude.{All}
 use Rattle.std.proofs.lemmas.List.Elements.{All-set, All-push}
 use Rattle.criteria_model.specs.Worth.{IsValueVector}
@@ -25,7 +25,8 @@ unfolding witness
 invariant_of-self c =
     let at = (goal.at.invariant_of-self c).After-len in (
       subst (All (IsWitness c.self.inside.model.levels c.self.inside.answers.answers)) (sym c.push_reserved.ensures.items)
-          (All-push (IsWitness c.self.inside.model.levels c.self.inside.answers.answers) c.self.inside.kept.items (record { vector = c.args.vector.now; met = c.len.result }) c.self.invariant.0 (is_witness at)),
+          (All-push (IsWitness c.self.inside.model.levels c.self.inside.answers.answers) c.self.inside.kept.items
+          (record { vector = c.args.vector.now; met = c.len.result }) c.self.invariant.0 (is_witness at)),
       omega arith,
       omega arith,
       c.self.invariant.3,
@@ -35,7 +36,8 @@ pub invariant_of-self-else-len-lt-MAX_WITNESSES : goal.invariant_of-self-else-le
 unfolding witness
 invariant_of-self-else-len-lt-MAX_WITNESSES c =
     let at = (goal.at.invariant_of-self-else-len-lt-MAX_WITNESSES c).After-len in (
-      All-set (IsWitness c.self.inside.model.levels c.self.inside.answers.answers) c.self.inside.kept.items c.self.inside.next (record { vector = c.args.vector.now; met = c.len.result }) (is_witness at) c.self.invariant.0,
+      All-set (IsWitness c.self.inside.model.levels c.self.inside.answers.answers) c.self.inside.kept.items c.self.inside.next (record { vector = c.args.vector.now; met = c.len.result })
+          (is_witness at) c.self.invariant.0,
       omega arith,
       omega arith,
       omega arith,
