@@ -67,34 +67,19 @@ get_or-minus (x ∷ a) [] k e = absurd (omega (arith, e))
 get_or-minus (x ∷ a) (y ∷ b) zero e = refl
 get_or-minus (x ∷ a) (y ∷ b) (suc k) e = get_or-minus a b k (omega arith)
 
+length-gain_on : (n high low : ℕ) → length (gain_on n high low) ≡ n - 1
+length-gain_on n high low = omega (arith, length-minus (has_on n high) (has_on n low), length-has_on n high, length-has_on n low)
+
 on_place : (n a b c d i : ℕ) → i < n - 1 → get_or (minus (gain_on n a b) (gain_on n c d)) i (pos 0) ≡ (lies_above a (1 + i) -ℤ lies_above b (1 + i)) -ℤ (lies_above c (1 + i) -ℤ lies_above d (1 + i))
 on_place n a b c d i lt =
     let at : (level : ℕ) → get_or (has_on n level) i (pos 0) ≡ lies_above level (1 + i) = λ level. get_or-map-range_with_len (lies_above level) 1 (n - 1) i (1 + i) (pos 0) lt refl in
-    get_or-minus (gain_on n a b) (gain_on n c d) i (omega (
-      arith,
-      length-minus (has_on n a) (has_on n b),
-      length-minus (has_on n c) (has_on n d),
-      length-has_on n a,
-      length-has_on n b,
-      length-has_on n c,
-      length-has_on n d,
-    ))
+    get_or-minus (gain_on n a b) (gain_on n c d) i (length-gain_on n a b ∙ sym (length-gain_on n c d))
     ∙ ap₂ (λ (x y : ℤ). x -ℤ y)
     (get_or-minus (has_on n a) (has_on n b) i (length-has_on n a ∙ sym (length-has_on n b)) ∙ ap₂ (λ (x y : ℤ). x -ℤ y) (at a) (at b))
     (get_or-minus (has_on n c) (has_on n d) i (length-has_on n c ∙ sym (length-has_on n d)) ∙ ap₂ (λ (x y : ℤ). x -ℤ y) (at c) (at d))
 
 length-on : (n a b c d : ℕ) → length (minus (gain_on n a b) (gain_on n c d)) ≡ n - 1
-length-on n a b c d =
-    omega (
-      arith,
-      length-minus (gain_on n a b) (gain_on n c d),
-      length-minus (has_on n a) (has_on n b),
-      length-minus (has_on n c) (has_on n d),
-      length-has_on n a,
-      length-has_on n b,
-      length-has_on n c,
-      length-has_on n d,
-    )
+length-on n a b c d = omega (arith, length-minus (gain_on n a b) (gain_on n c d), length-gain_on n a b, length-gain_on n c d)
 
 -- what holds at the criterion's increments holds at each number, since levels lie within
 gains_on : (n a b c d : ℕ) → FitsAt n a b → FitsAt n c d → All IsNonnegative (minus (gain_on n a b) (gain_on n c d)) → GainsAtLeast a b c d

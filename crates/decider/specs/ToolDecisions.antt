@@ -11,12 +11,11 @@ use Rattle.decider.specs.Decisions.{IsDecision, IsExact, HasFewWeights}
 use Rattle.decider.specs.Reserved.{IsReserved}
 use Rattle.decider.specs.Standing.{KeepsRoom}
 
--- the tools are reserved for the model; their answers are at most one a class, on pairs of the model, and their point meets them; the pair is one of the model
-pub record MayDecide (criteria : Criteria) (tools : Tools) (pair : Pair) : Type 0 where
+-- tools with which each pair of the model may be decided: reserved for the model, with at most one answer a class, all on pairs of the model, and a point that meets them
+pub record AreReady (criteria : Criteria) (tools : Tools) : Type 0 where
   pub reserved : IsReserved criteria tools
   pub few : length tools.snapshot.answers.answers ≤ class_count criteria.levels criteria.degree
   pub answers_fit : All (λ answer. IsFit criteria.levels answer.pair) tools.snapshot.answers.answers
-  pub pair_fits : IsFit criteria.levels pair
   pub meets : MeetsAll criteria.levels tools.snapshot.answers.answers tools.snapshot.point
 
 -- the decision is what the answers say of the pair; the snapshot and the dictionary's rooms are as before

@@ -8,7 +8,7 @@ ghost use Rattle.simplex.specs.Rows.{IsCoprime};
 ghost use Rattle.decider.specs.Standing.{StandsFor};
 ghost use Rattle.decider.specs.Decisions.{IsDecision};
 ghost use Rattle.decider.specs.Reserved.{IsReserved};
-ghost use Rattle.decider.specs.ToolDecisions.{MayDecide, Decides};
+ghost use Rattle.decider.specs.ToolDecisions.{AreReady, Decides};
 
 use crate::decision::Decision;
 use crate::decisions::decide;
@@ -70,7 +70,8 @@ impl Tools {
     /// ranking, then for two known vectors that open the pair, and only then solves: so the dictionary may be as it
     /// was, and stand for fewer answers.
     pub fn decide(&mut self, model: &Model, pair: &Pair) -> Decision
-        requires { MayDecide model.now self.old pair.now }
+        requires ready { AreReady model.now self.old }
+        requires fits { IsFit model.now.levels pair.now }
         ensures { Decides model.now self.old self.new pair.now result }
     {
         let verdict = model.ranking(&self.snapshot.point, pair);
@@ -85,7 +86,8 @@ impl Tools {
 
     /// The decision by two known vectors, else by the dictionary.
     fn open_or_solve(&mut self, model: &Model, pair: &Pair, verdict: Side) -> Decision
-        requires may { MayDecide model.now self.old pair.now }
+        requires ready { AreReady model.now self.old }
+        requires fits { IsFit model.now.levels pair.now }
         requires ranked { Ranks model.now.levels self.old.snapshot.point pair.now verdict }
         ensures { Decides model.now self.old self.new pair.now result }
     {
@@ -97,7 +99,8 @@ impl Tools {
 
     /// The decision by the dictionary. The vectors that it finds are kept.
     fn solve(&mut self, model: &Model, pair: &Pair, verdict: Side) -> Decision
-        requires { MayDecide model.now self.old pair.now }
+        requires ready { AreReady model.now self.old }
+        requires fits { IsFit model.now.levels pair.now }
         ensures { Decides model.now self.old self.new pair.now result }
     {
         let snapshot = &self.snapshot;

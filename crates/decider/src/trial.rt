@@ -5,7 +5,8 @@ ghost use Rattle.criteria_model.specs.Pairs.{IsFit};
 ghost use Rattle.fraction_free.specs.Dictionary.{IsDictionary};
 ghost use Rattle.simplex.specs.Rows.{MeetsRows, IsCoprime};
 ghost use Rattle.simplex.specs.Results.{IsFound, KeepsRows};
-ghost use Rattle.decider.specs.Standing.{rows_of, KeepsRoom, RisesAtMost};
+ghost use Rattle.decider.specs.Standing.{rows_of};
+ghost use Rattle.decider.specs.Trying.{IsTried};
 
 use crate::rows::{add_rows, row_count};
 use criteria_model::{Model, Pair, Side, Vector};
@@ -19,11 +20,7 @@ pub fn try_side(model: &Model, pair: &Pair, side: Side, work: &mut Dictionary) -
     requires columns { work.old.columns ≡ increments model.now.levels }
     requires room { length work.old.loaded + 2 ≤ work.old.room_rows }
     ensures found { IsFound work.old.columns (work.old.loaded ++ rows_of model.now.levels pair.now side) result }
-    ensures loaded { work.new.loaded ≡ work.old.loaded }
-    ensures columns { work.new.columns ≡ work.old.columns }
-    ensures room { KeepsRoom work.old work.new }
-    ensures loads { work.new.loads ≡ work.old.loads }
-    ensures added { RisesAtMost work.old.added work.new.added (length (rows_of model.now.levels pair.now side)) }
+    ensures tried { IsTried work.old work.new (length (rows_of model.now.levels pair.now side)) }
     ensures dictionary { IsDictionary work.new }
 {
     settle(work);
@@ -36,7 +33,7 @@ pub fn try_side(model: &Model, pair: &Pair, side: Side, work: &mut Dictionary) -
     found
 }
 
-/// What the solver finds. Of the two rows of an equal ranking none is raised alone.
+/// What the solver finds. Of the two rows of an equal ranking neither is raised by itself.
 fn solve_tried(side: Side, work: &mut Dictionary) -> Found
     requires { 0 < length work.old.loaded }
     ensures found { IsFound work.old.columns work.old.loaded result }
@@ -57,11 +54,7 @@ pub fn point_for(model: &Model, pair: &Pair, side: Side, work: &mut Dictionary) 
     requires some { (vector : List ℤ) × MeetsRows work.old.columns (work.old.loaded ++ rows_of model.now.levels pair.now side) vector }
     ensures meets { MeetsRows work.old.columns (work.old.loaded ++ rows_of model.now.levels pair.now side) result }
     ensures reduced { IsCoprime result }
-    ensures loaded { work.new.loaded ≡ work.old.loaded }
-    ensures columns { work.new.columns ≡ work.old.columns }
-    ensures room { KeepsRoom work.old work.new }
-    ensures loads { work.new.loads ≡ work.old.loads }
-    ensures added { RisesAtMost work.old.added work.new.added (length (rows_of model.now.levels pair.now side)) }
+    ensures tried { IsTried work.old work.new (length (rows_of model.now.levels pair.now side)) }
     ensures dictionary { IsDictionary work.new }
 {
     match try_side(model, pair, side, work) {

@@ -1,10 +1,11 @@
 //! A run of decisions along answers.
 ghost use Rattle.std.specs.Prelude.{◌≡◌, ◌-◌, ◌≤◌, length, All, pos, ◌≤ℤ◌};
 ghost use Rattle.criteria_model.specs.Worth.{increments, IsValueVector};
+ghost use Rattle.criteria_model.specs.Pairs.{IsFit};
 ghost use Rattle.decider.specs.Decisions.{IsDecision};
 ghost use Rattle.decider.specs.Reserved.{IsReserved};
 ghost use Rattle.decider.specs.Standing.{KeepsRoom};
-ghost use Rattle.decider.specs.ToolDecisions.{MayDecide};
+ghost use Rattle.decider.specs.ToolDecisions.{AreReady};
 ghost use Rattle.decision_bench.specs.Run.{IsUnderway};
 
 use crate::tally::Tally;
@@ -108,7 +109,8 @@ fn decide_next(
 
 /// What the answers say of the pair.
 fn decide_from(model: &Model, pair: &Pair, start: Start, tools: &mut Tools) -> Decision
-    requires { MayDecide model.now tools.old pair.now }
+    requires ready { AreReady model.now tools.old }
+    requires fits { IsFit model.now.levels pair.now }
     ensures decision { IsDecision model.now.levels tools.old.snapshot.answers.answers pair.now result }
     ensures snapshot { tools.new.snapshot ≡ tools.old.snapshot }
     ensures room { KeepsRoom tools.old.work tools.new.work }

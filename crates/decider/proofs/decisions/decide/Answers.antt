@@ -55,10 +55,10 @@ pub opening-plus-requires-clause-room : goal.opening-plus-requires-clause-room
 opening-plus-requires-clause-room c =
     omega (
       arith,
-      ap length c.try_side.ensures.loaded,
+      ap length c.try_side.ensures.tried.loaded,
       ap length c.bring_up.ensures.up.stands.loaded,
       rows_len-whole c.args.model.now.levels c.args.answers.now.answers,
-      c.try_side.ensures.room.rows,
+      c.try_side.ensures.tried.room.rows,
       c.bring_up.ensures.up.room.rows,
       c.requires.room.rows,
     )
@@ -66,17 +66,17 @@ opening-plus-requires-clause-room c =
 pub opening-plus-requires-clause-point : goal.opening-plus-requires-clause-point
 opening-plus-requires-clause-point c =
     standing_point c.args.model.now.levels c.args.answers.now.answers c.try_side.new.work c.args.point.now
-    (standing_still c.args.model.now.levels c.args.answers.now.answers c.bring_up.new.work c.try_side.new.work c.try_side.ensures.columns c.try_side.ensures.loaded
+    (standing_still c.args.model.now.levels c.args.answers.now.answers c.bring_up.new.work c.try_side.new.work c.try_side.ensures.tried.columns c.try_side.ensures.tried.loaded
     c.bring_up.ensures.up.stands) c.requires.meets
 
 pub opening-plus-requires-clause-mirrored : goal.opening-plus-requires-clause-mirrored
 opening-plus-requires-clause-mirrored c e =
     standing_mirrored c.args.model.now.levels c.args.answers.now.answers c.bring_up.new.work c.try_side.new.work c.args.point.now c.in-Point.other c.args.pair.now c.ranking-verdict.result
     c.other_side.result
-    c.bring_up.ensures.up.stands c.try_side.ensures.columns c.try_side.ensures.loaded c.requires.meets c.ranking-verdict.ensures.ranks c.other_side.ensures c.in-Point.ensures.found.0 e
+    c.bring_up.ensures.up.stands c.try_side.ensures.tried.columns c.try_side.ensures.tried.loaded c.requires.meets c.ranking-verdict.ensures.ranks c.other_side.ensures c.in-Point.ensures.found.0 e
 
 stands_still : (c : After-opening-plus) → StandsFor c.args.model.now.levels c.args.answers.now.answers c.try_side.new.work
-stands_still c = standing_still c.args.model.now.levels c.args.answers.now.answers c.bring_up.new.work c.try_side.new.work c.try_side.ensures.columns c.try_side.ensures.loaded
+stands_still c = standing_still c.args.model.now.levels c.args.answers.now.answers c.bring_up.new.work c.try_side.new.work c.try_side.ensures.tried.columns c.try_side.ensures.tried.loaded
     c.bring_up.ensures.up.stands
 
 pub returns-in-Point-clause-decision : goal.returns-in-Point-clause-decision

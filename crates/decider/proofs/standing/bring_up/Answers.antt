@@ -6,21 +6,24 @@ use Rattle.criteria_model.specs.Pairs.{IsFit}
 use Rattle.fraction_free.specs.Dictionary.{DictionaryView, IsDictionary}
 use Rattle.decider.proofs.Standings.{Begun, begun_is_warm, begun_is_cold, brought_none, brought_more, brought_room, brought_up}
 use Rattle.decider.proofs.standing.bring_up.Goals as goal
-use Rattle.decider.proofs.standing.bring_up.Goals.{in-Some, in-None}
+use Rattle.decider.proofs.standing.bring_up.Goals.{After-len-at-end, in-Some, in-None}
+
+module _ (c : After-len-at-end) where
+  begun : Begun c.args.model.now.levels c.args.answers.now.answers c.args.work.now c.match-standing.work c.match-standing.held
+  begun = elim c.match-standing.branch [
+    | in-Some w ↦ begun_is_warm c.args.model.now.levels c.args.answers.now.answers c.args.work.now c.match-standing.work c.match-standing.held w.in-Some.held w.work-is w.held-is
+        w.in-Some.ensures.standing.0 w.in-Some.ensures.standing.1
+    | in-None w ↦ begun_is_cold c.args.model.now.levels c.args.answers.now.answers c.args.work.now c.match-standing.work c.match-standing.held w.increments.result
+        (w.work-is ∙ w.load.ensures.empty) w.held-is w.increments.ensures.value w.in-None.ensures.standing
+  ]
 
 pub loop-at-init : goal.loop-at-init
 loop-at-init c =
-    let begun : Begun c.args.model.now.levels c.args.answers.now.answers c.args.work.now c.match-standing.work c.match-standing.held = elim c.match-standing.branch [
-      | in-Some w ↦ begun_is_warm c.args.model.now.levels c.args.answers.now.answers c.args.work.now c.match-standing.work c.match-standing.held w.in-Some.held w.work-is w.held-is
-          w.in-Some.ensures.standing.0 w.in-Some.ensures.standing.1
-      | in-None w ↦ begun_is_cold c.args.model.now.levels c.args.answers.now.answers c.args.work.now c.match-standing.work c.match-standing.held w.increments.result
-          (w.work-is ∙ w.load.ensures.empty) w.held-is w.increments.ensures.value w.in-None.ensures.standing
-    ] in
     let dictionary : IsDictionary c.match-standing.work = elim c.match-standing.branch [
       | in-Some w ↦ subst (λ (t : DictionaryView). IsDictionary t) (sym w.work-is) w.in-Some.ensures.dictionary
       | in-None w ↦ subst (λ (t : DictionaryView). IsDictionary t) (sym w.work-is) w.load.ensures.dictionary
     ] in
-    brought_none c.args.model.now.levels c.args.answers.now.answers c.args.work.now c.match-standing.work c.match-standing.held begun dictionary
+    brought_none c.args.model.now.levels c.args.answers.now.answers c.args.work.now c.match-standing.work c.match-standing.held (begun (goal.at.loop-at-init c).After-len-at-end) dictionary
 
 pub add_rows-requires-clause-fits : goal.add_rows-requires-clause-fits
 add_rows-requires-clause-fits c =
@@ -31,14 +34,8 @@ add_rows-requires-clause-fits c =
 
 pub add_rows-requires-clause-room : goal.add_rows-requires-clause-room
 add_rows-requires-clause-room c =
-    let begun : Begun c.args.model.now.levels c.args.answers.now.answers c.args.work.now c.match-standing.work c.match-standing.held = elim c.match-standing.branch [
-      | in-Some w ↦ begun_is_warm c.args.model.now.levels c.args.answers.now.answers c.args.work.now c.match-standing.work c.match-standing.held w.in-Some.held w.work-is w.held-is
-          w.in-Some.ensures.standing.0 w.in-Some.ensures.standing.1
-      | in-None w ↦ begun_is_cold c.args.model.now.levels c.args.answers.now.answers c.args.work.now c.match-standing.work c.match-standing.held w.increments.result
-          (w.work-is ∙ w.load.ensures.empty) w.held-is w.increments.ensures.value w.in-None.ensures.standing
-    ] in
     brought_room c.args.model.now.levels c.args.answers.now.answers c.args.work.now c.match-standing.work c.loop-at.work c.match-standing.held c.loop-at.at
-    (omega (arith, c.len-at-end.ensures.value)) c.requires.room begun.room c.loop-at.invariant
+    (omega (arith, c.len-at-end.ensures.value)) c.requires.room (begun (goal.at.add_rows-requires-clause-room c).After-len-at-end).room c.loop-at.invariant
 
 pub loop-at-preserved : goal.loop-at-preserved
 loop-at-preserved c =
@@ -51,12 +48,7 @@ loop-at-preserved c =
 
 pub returns-clause-up : goal.returns-clause-up
 returns-clause-up c =
-    let begun : Begun c.args.model.now.levels c.args.answers.now.answers c.args.work.now c.match-standing.work c.match-standing.held = elim c.match-standing.branch [
-      | in-Some w ↦ begun_is_warm c.args.model.now.levels c.args.answers.now.answers c.args.work.now c.match-standing.work c.match-standing.held w.in-Some.held w.work-is w.held-is
-          w.in-Some.ensures.standing.0 w.in-Some.ensures.standing.1
-      | in-None w ↦ begun_is_cold c.args.model.now.levels c.args.answers.now.answers c.args.work.now c.match-standing.work c.match-standing.held w.increments.result
-          (w.work-is ∙ w.load.ensures.empty) w.held-is w.increments.ensures.value w.in-None.ensures.standing
-    ] in
+    let begun = begun (goal.at.returns-clause-up c).After-len-at-end in
     let most = begun.most in
     let end = c.loop-at.auto.at-end in
     brought_up c.args.model.now.levels c.args.answers.now.answers c.args.work.now c.match-standing.work c.loop-at.work c.match-standing.held c.loop-at.at

@@ -17,17 +17,22 @@ returns-in-Undecided c =
     let room : room_of c.decide_from-decision.new.tools.snapshot.answers ≡ room_of c.args.tools.now.snapshot.answers = ap (λ (s : Snapshot). room_of s.answers) kept in
     let count : length before ≡ length c.args.tools.now.snapshot.answers.answers = ap (λ (s : Snapshot). length s.answers.answers) kept in
     record {
-      reserved = record {
-        snapshot = omega (arith, c.push.ensures.room, room, c.requires.underway.reserved.snapshot);
-        work = record {
-          columns = omega (arith, c.point_with-tools.ensures.up.room.columns, c.decide_from-decision.ensures.room.columns, c.requires.underway.reserved.work.columns);
-          rows = omega (arith, c.point_with-tools.ensures.up.room.rows, c.decide_from-decision.ensures.room.rows, c.requires.underway.reserved.work.rows);
+      ready = record {
+        reserved = record {
+          snapshot = omega (arith, c.push.ensures.room, room, c.requires.underway.ready.reserved.snapshot);
+          work = record {
+            columns = omega (arith, c.point_with-tools.ensures.up.room.columns, c.decide_from-decision.ensures.room.columns, c.requires.underway.ready.reserved.work.columns);
+            rows = omega (arith, c.point_with-tools.ensures.up.room.rows, c.decide_from-decision.ensures.room.rows, c.requires.underway.ready.reserved.work.rows);
+          };
         };
+        few = omega (arith, c.requires.underway.most, count, ap length c.push.ensures.answers, length-append before (answer ∷ []), c.requires.high, c.count-_count.ensures);
+        answers_fit = subst (λ (l : List Answer). All (λ a. IsFit c.args.classes.now.criteria.levels a.pair) l) (sym c.push.ensures.answers)
+            (All-push (λ a. IsFit c.args.classes.now.criteria.levels a.pair) before answer
+            (subst (λ (s : Snapshot). All (λ a. IsFit c.args.classes.now.criteria.levels a.pair) s.answers.answers) (sym kept) c.requires.underway.ready.answers_fit)
+            c.class-pair.ensures.class.fits);
+        meets = subst (λ (l : List Answer). MeetsAll c.args.classes.now.criteria.levels l c.point_with-tools.result) (sym c.push.ensures.answers)
+            (subst (λ (l : List ℕ). MeetsAll l (before ++ answer ∷ []) c.point_with-tools.result) (ap (λ m. m.levels) c.model-model.ensures.value)
+            c.point_with-tools.ensures.meets);
       };
       most = omega (arith, c.requires.underway.most, count, ap length c.push.ensures.answers, length-append before (answer ∷ []));
-      fit = subst (λ (l : List Answer). All (λ a. IsFit c.args.classes.now.criteria.levels a.pair) l) (sym c.push.ensures.answers)
-          (All-push (λ a. IsFit c.args.classes.now.criteria.levels a.pair) before answer
-          (subst (λ (s : Snapshot). All (λ a. IsFit c.args.classes.now.criteria.levels a.pair) s.answers.answers) (sym kept) c.requires.underway.fit) c.class-pair.ensures.class.fits);
-      met = subst (λ (l : List Answer). MeetsAll c.args.classes.now.criteria.levels l c.point_with-tools.result) (sym c.push.ensures.answers)
-          (subst (λ (l : List ℕ). MeetsAll l (before ++ answer ∷ []) c.point_with-tools.result) (ap (λ m. m.levels) c.model-model.ensures.value) c.point_with-tools.ensures.meets);
     }
