@@ -25,7 +25,7 @@ returns-in-Undecided c =
             rows = omega (arith, c.point_with-tools.ensures.up.room.rows, c.decide_from-decision.ensures.room.rows, c.requires.underway.ready.reserved.work.rows);
           };
         };
-        few = omega (arith, c.requires.underway.most, count, ap length c.push.ensures.answers, length-append before (answer ∷ []), c.requires.high, c.count-_count.ensures);
+        few = omega (arith, c.requires.underway.most, count, ap length c.push.ensures.answers, length-append before (answer ∷ []), c.requires.high, c.count-count.ensures.listed.len);
         answers_fit = subst (λ (l : List Answer). All (λ a. IsFit c.args.classes.now.criteria.levels a.pair) l) (sym c.push.ensures.answers)
             (All-push (λ a. IsFit c.args.classes.now.criteria.levels a.pair) before answer
             (subst (λ (s : Snapshot). All (λ a. IsFit c.args.classes.now.criteria.levels a.pair) s.answers.answers) (sym kept) c.requires.underway.ready.answers_fit)
