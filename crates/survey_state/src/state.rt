@@ -1,0 +1,220 @@
+//! The state of a survey.
+ghost use Rattle.std.specs.Prelude.{◌≡◌, ◌≢◌, ◌+◌, ◌-◌, ◌*◌, ◌^◌, ◌<◌, ◌≤◌, [], ◌∷◌, ◌++◌, length, take, fold, replicate, pos, IsTrue, IfOk, OnOk, OnErr, vec_len, vec_capacity, if◌then◌else◌};
+ghost use Rattle.pair_enumeration.specs.Listed.{IsListed};
+ghost use Rattle.criteria_model.specs.Worth.{increments};
+ghost use Rattle.criteria_model.specs.Answers.{MeetsAll};
+ghost use Rattle.answer_rows.specs.Room.{room_of};
+ghost use Rattle.survey_core.specs.Histories.{item_at, committed};
+ghost use Rattle.survey_core.specs.Kinds.{is_commit, is_withdraw};
+ghost use Rattle.survey_core.specs.Legal.{IsEvent, IsLegal, MayFollow};
+ghost use Rattle.survey_core.specs.Laws.{last_point};
+ghost use Rattle.survey_core.specs.Recorded.{Recorded};
+ghost use Rattle.survey_state.specs.States.{Surveyed, changes_answers as changes, version_of, room_for_withdrawal, IsOffered, IsSnapshotOf, points_after};
+
+use crate::front::common_front;
+use crate::offer::Offer;
+use criteria_model::{MAX_INCREMENTS, Model, Vector};
+use decider::Snapshot;
+use std::alloc::{AllocError as NoMemory, Global};
+use survey_core::{Core, Event, MAX_EVENTS};
+
+/// A survey in memory: a legal journal and what it comes to. Memory is taken by `new` and `make_room` only.
+#[derive(Drop)]
+pub struct State {
+    core: Core,
+    journal: Vec<Event>,
+    // The points of the commits that stand, in order.
+    points: Vec<Vector>,
+    version: u32,
+}
+
+// Clauses see the model with its classes, the journal, and for how many more events there is memory.
+impl std::marker::Model for State {
+    ghost use Rattle.std.specs.Prelude.{◌-◌, vec_len, vec_capacity};
+    ghost use Rattle.survey_state.specs.States.{Surveyed, KeepsJournal};
+
+    ghost Value = { Surveyed };
+
+    ghost view = { λ s. record { listed = s.core.listed; journal = s.journal.items; spare = vec_capacity s.journal - vec_len s.journal } };
+
+    ghost invariant = { λ s. KeepsJournal s.core s.journal.items s.points.items s.version (vec_capacity s.points) (vec_capacity s.journal - vec_len s.journal) };
+}
+
+impl State {
+    /// The empty journal of a model, with memory for three events a class.
+    ///
+    /// # Errors
+    ///
+    /// Out of memory.
+    pub fn new(alloc: Global, model: &Model) -> Result<State, NoMemory>
+        ensures model { IfOk result (λ state. state.listed.criteria ≡ model.now) }
+        ensures listed { IfOk result (λ state. IsListed state.listed) }
+        ensures empty { IfOk result (λ state. state.journal ≡ []) }
+        ensures room { IfOk result (λ state. 3 * length state.listed.classes ≤ state.spare) }
+    {
+        let core = Core::new(alloc, model)?;
+        let classes = model.class_count() as usize;
+        let journal = Vec::with_capacity(alloc, 3 * classes)?;
+        let points = Vec::with_capacity(alloc, classes)?;
+        Ok(State {
+            core,
+            journal,
+            points,
+            version: 0,
+        })
+    }
+
+    /// Puts the event at the end of the journal where it may follow. It takes no memory: a withdrawal needs
+    /// [`State::make_room`] before.
+    pub fn offer(&mut self, event: Event) -> Offer
+        requires event { IsEvent self.old.listed.criteria.levels event }
+        requires room { IsTrue (is_withdraw event) → room_for_withdrawal self.old.listed ≤ self.old.spare }
+        ensures { IsOffered self.old self.new event result }
+    {
+        match self.core.allowed(&event) {
+            Err(broken) => Offer::Stale(broken),
+            Ok(()) => {
+                self.record(event);
+                Offer::Done
+            }
+        }
+    }
+
+    /// Puts an event that may follow at the end.
+    fn record(&mut self, event: Event)
+        requires event { IsEvent self.old.listed.criteria.levels event }
+        requires allowed { MayFollow self.old.listed self.old.journal event }
+        requires room { IsTrue (is_withdraw event) → room_for_withdrawal self.old.listed ≤ self.old.spare }
+        ensures { self.new ≡ record { listed = self.old.listed; journal = self.old.journal ++ event ∷ []; spare = self.old.spare - 1 } }
+    {
+        self.core.apply(&event);
+        self.version = version_after(self.version, &event);
+        follow(&mut self.points, &event);
+        self.journal.push_reserved(event);
+    }
+
+    /// The number of events in the journal.
+    pub fn length(&self) -> u32
+        ensures value { result ≡ length self.now.journal }
+        ensures listed { IsListed self.now.listed }
+        ensures legal { IsLegal self.now.listed self.now.journal }
+        ensures short { length self.now.journal ≤ MAX_EVENTS }
+    {
+        self.journal.len() as u32
+    }
+
+    /// The event at a place of the journal; places count from 1.
+    pub fn event(&self, place: u32) -> Event
+        requires low { 1 ≤ place }
+        requires high { place ≤ length self.now.journal }
+        ensures { item_at self.now.journal place ≡ Some result }
+    {
+        self.journal[place as usize - 1]
+    }
+
+    /// What the journal comes to.
+    pub fn core(&self) -> &Core
+        ensures listed { result.now.listed ≡ self.now.listed }
+        ensures history { result.now.history ≡ self.now.journal }
+    {
+        &self.core
+    }
+
+    /// The point of the last answer that stands, or all ones where none does. It meets the answers.
+    pub fn point(&self) -> Vector
+        ensures value { result ≡ last_point self.now.listed.criteria.levels self.now.journal }
+        ensures meets { MeetsAll self.now.listed.criteria.levels (committed self.now.listed.classes self.now.journal) result }
+    {
+        latest(self.points.as_slice(), &self.core.model())
+    }
+
+    /// How often the answers changed: the number of commits and withdrawals.
+    pub fn version(&self) -> u32
+        ensures { result ≡ version_of self.now.journal }
+    {
+        self.version
+    }
+
+    /// Brings the snapshot's answers to the journal's: they are cut to those that both have in front, and as many of the
+    /// others are copied as there is memory for. Returns how many are still missing; where none is, the snapshot has the
+    /// point and the version too.
+    pub fn snapshot_into(&self, snapshot: &mut Snapshot) -> u32
+        ensures answers { snapshot.new.answers.answers ≡ take (room_of snapshot.old.answers) (committed self.now.listed.classes self.now.journal) }
+        ensures missing { length snapshot.new.answers.answers + result ≡ length (committed self.now.listed.classes self.now.journal) }
+        ensures room { room_of snapshot.new.answers ≡ room_of snapshot.old.answers }
+        ensures whole { result ≡ 0 → IsSnapshotOf self.now.listed self.now.journal snapshot.new }
+        ensures part { result ≢ 0 → (snapshot.new.point ≡ snapshot.old.point) × (snapshot.new.version ≡ snapshot.old.version) }
+    {
+        let answers = self.core.answers();
+        let common = common_front(snapshot.answers.as_slice(), answers.as_slice());
+        snapshot.answers.cut(common as u32);
+        let missing = snapshot.answers.copy_from(answers);
+        if missing == 0 {
+            snapshot.point = self.point();
+            snapshot.version = self.version;
+        }
+        missing
+    }
+
+    /// Takes memory for a withdrawal and for all events that may follow it up to the next one.
+    ///
+    /// # Errors
+    ///
+    /// Out of memory.
+    pub fn make_room(&mut self) -> Result<(), NoMemory>
+        ensures listed { self.new.listed ≡ self.old.listed }
+        ensures journal { self.new.journal ≡ self.old.journal }
+        ensures room { OnOk result (room_for_withdrawal self.old.listed ≤ self.new.spare) }
+        ensures kept { self.old.spare ≤ self.new.spare }
+    {
+        let classes = self.core.model().class_count() as usize;
+        self.journal.reserve(3 * classes + 1)
+    }
+}
+
+/// The number of changes of the answers, after the event.
+fn version_after(version: u32, event: &Event) -> u32
+    requires { version ≤ MAX_EVENTS }
+    ensures { result ≡ version + (if changes event.now then 1 else 0) }
+{
+    match event {
+        Event::Commit { .. } | Event::Withdraw { .. } => version + 1,
+        _ => version,
+    }
+}
+
+/// The points of the commits that stand, after the event.
+fn follow(points: &mut Vec<Vector>, event: &Event)
+    requires { IsTrue (is_commit event.now) → vec_len points.old < vec_capacity points.old }
+    ensures items { points.new.items ≡ points_after points.old.items event.now }
+    ensures capacity { vec_capacity points.new ≡ vec_capacity points.old }
+{
+    match event {
+        Event::Commit { point, .. } => points.push_reserved(*point),
+        Event::Withdraw { .. } => {
+            let _last = points.pop();
+        }
+        _ => {}
+    }
+}
+
+/// The last of the points, or all ones where there is none.
+fn latest(points: &[Vector], model: &Model) -> Vector
+    ensures { result ≡ fold (λ earlier point. point) (replicate (increments model.now.levels) (pos 1)) points.now }
+{
+    match points.last() {
+        Some(point) => *point,
+        None => ones(model),
+    }
+}
+
+/// The vector of ones.
+fn ones(model: &Model) -> Vector
+    ensures { result ≡ replicate (increments model.now.levels) (pos 1) }
+{
+    let ones = [1; MAX_INCREMENTS];
+    Vector::of(&ones[..usize::from(model.increments())])
+}
+
+#[cfg(test)]
+mod tests;

@@ -1,0 +1,135 @@
+ghost use Rattle.std.specs.Prelude.{◌≡◌, IsTrue};
+ghost use Rattle.criteria_model.specs.Worth.{IsValueVector};
+ghost use Rattle.survey_core.specs.Kinds.{is_withdraw};
+ghost use Rattle.survey_core.specs.Legal.{IsEvent};
+
+use super::*;
+use criteria_model::Side;
+use decider::Tools;
+use std::process::Abort;
+use std::test::Fail;
+use survey_core::Broken;
+
+fn vector(items: [i8; 3]) -> Vector {
+    let [first, second, third] = items;
+    Vector::of(&[i128::from(first), i128::from(second), i128::from(third)])
+}
+
+fn issue(place: u32, plus: [i8; 3], minus: [i8; 3]) -> Event {
+    Event::Issue {
+        desk: 1,
+        place,
+        plus: vector(plus),
+        minus: vector(minus),
+    }
+}
+
+fn commit(question: u32, side: Side, plus: [i8; 3], minus: [i8; 3], point: [i8; 3]) -> Event {
+    Event::Commit {
+        desk: 1,
+        question,
+        side,
+        plus: vector(plus),
+        minus: vector(minus),
+        point: vector(point),
+    }
+}
+
+fn withdraw(answer: u32) -> Event {
+    Event::Withdraw { desk: 1, answer }
+}
+
+/// Whether the event is an issue, a commit or a withdrawal of desk 1, with value vectors.
+fn is_event(model: &Model, event: &Event) -> bool
+    ensures { IsTrue result → IsEvent model.now.levels event.now }
+{
+    match event {
+        Event::Issue {
+            desk,
+            plus,
+            minus,
+            ..
+        } => *desk == 1 && is_values(model, plus) && is_values(model, minus),
+        Event::Commit {
+            desk,
+            plus,
+            minus,
+            point,
+            ..
+        } => {
+            *desk == 1
+                && is_values(model, plus)
+                && is_values(model, minus)
+                && is_values(model, point)
+        }
+        Event::Withdraw { desk, .. } => *desk == 1,
+        _ => false,
+    }
+}
+
+fn is_values(model: &Model, vector: &Vector) -> bool
+    ensures { IsTrue result → IsValueVector model.now.levels vector.now }
+{
+    vector.len() == usize::from(model.increments())
+        && vector.as_slice().iter().all(|value| *value >= 1)
+}
+
+/// Offers an event, with memory for a withdrawal.
+fn offer(rt: &impl Abort, state: &mut State, event: Event) -> Result<Offer, Fail> {
+    let model = state.core().model();
+    state.make_room()?;
+    assert!(rt; is_event(&model, &event));
+    Ok(state.offer(event))
+}
+
+/// An answer is given and taken back: point, version and snapshot follow, and an event that may not follow changes nothing.
+#[test]
+fn answer_and_withdrawal(rt: HostRuntime) -> Result<(), Fail> {
+    let model = Model::new(&[2, 2, 2], 3).ok().ok_or("model")?;
+    let mut state = State::new(rt.alloc(), &model)?;
+    let mut tools = Tools::reserve(rt.alloc(), &model)?;
+    let rows = [
+        (
+            issue(2, [2, 1, 1], [1, 1, 2]),
+            Offer::Stale(Broken::Earlier),
+            0,
+            0,
+            [1, 1, 1],
+        ),
+        (issue(1, [2, 1, 1], [1, 2, 1]), Offer::Done, 1, 0, [1, 1, 1]),
+        (
+            commit(1, Side::Left, [2, 1, 1], [1, 2, 1], [2, 1, 1]),
+            Offer::Done,
+            2,
+            1,
+            [2, 1, 1],
+        ),
+        (
+            commit(1, Side::Left, [2, 1, 1], [1, 2, 1], [2, 1, 1]),
+            Offer::Stale(Broken::Question),
+            2,
+            1,
+            [2, 1, 1],
+        ),
+        (withdraw(1), Offer::Done, 3, 2, [1, 1, 1]),
+        (withdraw(1), Offer::Stale(Broken::Nothing), 3, 2, [1, 1, 1]),
+        (
+            commit(1, Side::Right, [2, 1, 1], [1, 2, 1], [1, 2, 1]),
+            Offer::Done,
+            4,
+            3,
+            [1, 2, 1],
+        ),
+    ];
+    for (event, offered, length, version, point) in rows {
+        assert_eq!(rt; offer(&rt, &mut state, event)?, offered);
+        assert_eq!(rt; state.length(), length);
+        assert_eq!(rt; state.version(), version);
+        assert!(rt; state.point() == vector(point));
+        assert_eq!(rt; state.snapshot_into(&mut tools.snapshot), 0);
+        assert_eq!(rt; tools.snapshot.version, version);
+        assert!(rt; tools.snapshot.answers.len() == state.core().answers().len());
+    }
+    assert!(rt; state.event(3) == withdraw(1));
+    Ok(())
+}
