@@ -9,6 +9,7 @@
 #![tactic(auto)]
 
 mod front;
+mod journal;
 mod offer;
 mod state;
 

@@ -9,6 +9,7 @@ use decider::Tools;
 use std::process::Abort;
 use std::test::Fail;
 use survey_core::Broken;
+use survey_replies::Events;
 
 fn vector(items: [i8; 3]) -> Vector {
     let [first, second, third] = items;
@@ -74,6 +75,16 @@ fn is_values(model: &Model, vector: &Vector) -> bool
         && vector.as_slice().iter().all(|value| *value >= 1)
 }
 
+/// The event at a place, through the trait.
+fn event_at<E: Events>(journal: &mut E, place: u32) -> Option<Event>
+    requires { E.can_wait }
+{
+    if place == 0 || place > journal.length() {
+        return None;
+    }
+    Some(journal.event(place))
+}
+
 /// Offers an event, with memory for a withdrawal.
 fn offer(rt: &impl Abort, state: &mut State, event: Event) -> Result<Offer, Fail> {
     let model = state.core().model();
@@ -130,6 +141,8 @@ fn answer_and_withdrawal(rt: HostRuntime) -> Result<(), Fail> {
         assert_eq!(rt; tools.snapshot.version, version);
         assert!(rt; tools.snapshot.answers.len() == state.core().answers().len());
     }
-    assert!(rt; state.event(3) == withdraw(1));
+    assert!(rt; event_at(&mut state, 3) == Some(withdraw(1)));
+    assert!(rt; event_at(&mut state, 5).is_none());
+    assert!(rt; Events::class_pair(&state, 1) == state.core().class(1));
     Ok(())
 }
