@@ -3,6 +3,7 @@ use Rattle.std.proofs.Common.{◌≡◌, ℕ, zero, suc, ◌+◌, ◌-◌, ◌*�
 use Rattle.std.specs.List.{count_by}
 use Rattle.std.specs.Option.{option_map_or}
 use Rattle.std.proofs.lemmas.List.{length-set, take-append-le}
+use Rattle.std.proofs.lemmas.Option.{slice_get_within}
 use Rattle.std.proofs.lemmas.List.Sums.{sum_by_push, sum_by-cons, count_by-le-length}
 use Rattle.criteria_model.specs.declared.pairs.Pair.{Pair}
 use Rattle.criteria_model.specs.declared.pairs.Answer.{Answer}
@@ -31,13 +32,14 @@ use Rattle.survey_core.proofs.ShortLemmas.{legal_is_within_most_lem}
 use Rattle.survey_core.proofs.NextKept.{unranked_mark, open_mark, asked_within, question_found, asks_question, asked_class, asked_unranked, commit_room, kept_eliminate, kept_issue, kept_commit_at, kept_close, kept_withdraw}
 use Rattle.row_laws.proofs.ItemLemmas.{item_of, slice_get-append}
 use Rattle.survey_state.specs.States.{HasRoom}
+use Rattle.survey_state.specs.Laws.{ThreeAClassFollow}
 
 -- what a `Core` could keep of a history
-pub record Held (listed : Listed) (history : List Event) : Type 0 where
-  pub answers : AnswersWithRoom
-  pub table : Table
-  pub withdrawn : ℕ
-  pub kept : KeepsHistory listed history answers table withdrawn MAX_EVENTS
+record Held (listed : Listed) (history : List Event) : Type 0 where
+  answers : AnswersWithRoom
+  table : Table
+  withdrawn : ℕ
+  kept : KeepsHistory listed history answers table withdrawn MAX_EVENTS
 
 -- what was done of all that could be: two for each question, one for each ranked class
 abbrev done : {listed : Listed} {history : List Event} → Held listed history → ℕ
@@ -275,7 +277,7 @@ held_first listed history model legal (suc k) within =
     (next listed (take k history) before found.0 (legal k found.0 found.1).0 (named listed (take k history) found.0 (legal k found.0 found.1).1)).held
 
 -- a `Core` could keep each legal history
-pub held_whole : (listed : Listed) (history : List Event) → IsListed listed → IsLegal listed history → Held listed history
+held_whole : (listed : Listed) (history : List Event) → IsListed listed → IsLegal listed history → Held listed history
 held_whole listed history model legal =
     subst (λ (events : List Event). Held listed events) (take_whole (length history) history (omega arith))
     (held_first listed history model legal (length history) (omega arith))
@@ -286,12 +288,15 @@ few_committed listed history model legal =
     let now : Held listed history = held_whole listed history model legal in
     omega (arith, few_answers _ _ _ _ _ _ now.kept, ap (λ (l : List Answer). length l) now.kept.answered)
 
--- memory for three events a class is enough, wherever one begins
-pub three_each : (listed : Listed) (history : List Event) (spare : ℕ) → IsListed listed → IsLegal listed history → 3 * length listed.classes ≤ spare
-    → HasRoom listed history spare
-three_each listed history spare model legal enough more longer none =
-    let now : Held listed history = held_whole listed history model legal in
-    omega (arith, follow_within listed history more now longer none, undone_within listed history now)
+legal_front : (listed : Listed) (history more : List Event) → IsLegal listed (history ++ more) → IsLegal listed history
+legal_front listed history more legal k event at =
+    subst (λ (before : List Event). IsEvent listed.criteria.levels event × MayFollow listed before event)
+    (take-append-le k history more (omega (arith, slice_get_within history k event at))) (legal k event (slice_get-append history more k event at))
+
+pub three_a_class_follow_lem : ThreeAClassFollow
+three_a_class_follow_lem listed history more model legal none =
+    let now : Held listed history = held_whole listed history model (legal_front listed history more legal) in
+    omega (arith, follow_within listed history more now legal none, undone_within listed history now)
 
 -- the next event takes some of it
 pub room_next : (listed : Listed) (history : List Event) (event : Event) (spare : ℕ) → HasRoom listed history spare → is_withdraw event ≡ false

@@ -10,6 +10,7 @@
 
 mod front;
 mod journal;
+pub mod laws;
 mod offer;
 mod state;
 

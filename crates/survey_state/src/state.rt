@@ -166,6 +166,7 @@ impl State {
         ensures journal { self.new.journal ≡ self.old.journal }
         ensures room { OnOk result (room_for_withdrawal self.old.listed ≤ self.new.spare) }
         ensures kept { self.old.spare ≤ self.new.spare }
+        ensures err { OnErr result (self.new ≡ self.old) }
     {
         let classes = self.core.model().class_count() as usize;
         self.journal.reserve(3 * classes + 1)

@@ -1,5 +1,5 @@
 use Rattle.std.proofs.Common.{arith}
-use Rattle.survey_state.proofs.PointLemmas.{keeps_longer}
+use Rattle.survey_state.proofs.JournalLemmas.{keeps_longer}
 use Rattle.survey_state.proofs.state.State.make_room.Goals as goal
 
 pub invariant_of-self : goal.invariant_of-self

@@ -1,7 +1,7 @@
 use Rattle.std.proofs.Common.{◌≡◌, length, ap, sym, ◌∙◌, arith}
 use Rattle.criteria_model.specs.Counts.{class_count}
 use Rattle.criteria_model.specs.Criteria.{Criteria}
-use Rattle.survey_state.proofs.PointLemmas.{keeps_new}
+use Rattle.survey_state.proofs.JournalLemmas.{keeps_new}
 use Rattle.survey_state.proofs.state.State.new.Goals as goal
 
 pub invariant_of-result : goal.invariant_of-result

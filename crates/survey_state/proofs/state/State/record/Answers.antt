@@ -2,7 +2,7 @@ use Rattle.std.proofs.Common.{◌≡◌, ◌+◌, ◌-◌, ◌<◌, ◌≤◌, �
 use Rattle.survey_core.specs.declared.events.Event.{Event}
 use Rattle.survey_core.specs.Kinds.{is_withdraw}
 use Rattle.survey_state.specs.States.{Surveyed, room_for_withdrawal, KeepsJournal}
-use Rattle.survey_state.proofs.PointLemmas.{few_changes, points_room, room_now, legal_next, keeps_next, keeps_as}
+use Rattle.survey_state.proofs.JournalLemmas.{few_changes, points_room, room_now, legal_next, keeps_next, keeps_as}
 use Rattle.survey_state.proofs.state.State.record.Goals as goal
 
 pub version_after-self-inside-requires : goal.version_after-self-inside-requires

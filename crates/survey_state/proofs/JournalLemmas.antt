@@ -18,7 +18,7 @@ use Rattle.survey_core.proofs.StandingLemmas.{standing-push, commit_count, OfCom
 use Rattle.survey_core.proofs.SoundLemmas.{sound_history, answers_count}
 use Rattle.survey_core.proofs.ShortLemmas.{legal_is_short_lem}
 use Rattle.survey_state.specs.States.{HasRoom, room_for_withdrawal, changes_answers, version_of, points_after, KeepsJournal}
-use Rattle.survey_state.proofs.RoomLemmas.{few_committed, three_each, room_next, some_room}
+use Rattle.survey_state.proofs.RoomLemmas.{few_committed, three_a_class_follow_lem, room_next, some_room}
 
 -- the points of the standing Commits
 abbrev pub points_in : List Event → List (List ℤ)
@@ -71,33 +71,6 @@ points_room listed history event model legal commits =
     one_more points (Close desk question) is = absurd (let both : false ≡ true = is in cc)
     one_more points (Withdraw desk answer) is = absurd (let both : false ≡ true = is in cc)
 
--- the last of the points, or the first one where there is none
-pub last_is : {X : Type 0} (first : X) (items : List X) (last : X) → slice_get items (length items - 1) ≡ Some last → fold (λ earlier item. item) first items ≡ last
-last_is first [] last at = absurd (none-some last at)
-last_is first (x ∷ []) last at = same_Some x last at
-last_is first (x ∷ y ∷ items) last at =
-    let index : length (x ∷ y ∷ items) - 1 ≡ suc (length items) = omega arith in
-    let inner : length items ≡ length (y ∷ items) - 1 = omega arith in
-    last_is x (y ∷ items) last
-    (ap (λ k. slice_get (y ∷ items) k) (sym inner) ∙ ap (λ k. slice_get (x ∷ y ∷ items) k) (sym index) ∙ at)
-
-pub none_is : {X : Type 0} (first : X) (items : List X) → slice_get items (length items - 1) ≡ None → fold (λ earlier item. item) first items ≡ first
-none_is first [] at = refl
-none_is first (x ∷ []) at = absurd (none-some x (sym at))
-none_is first (x ∷ y ∷ items) at =
-    let index : length (x ∷ y ∷ items) - 1 ≡ suc (length items) = omega arith in
-    let inner : length items ≡ length (y ∷ items) - 1 = omega arith in
-    let none : slice_get (y ∷ items) (length (y ∷ items) - 1) ≡ None =
-    ap (λ k. slice_get (y ∷ items) k) (sym inner) ∙ ap (λ k. slice_get (x ∷ y ∷ items) k) (sym index) ∙ at in
-    absurd (some_inside y items none)
-  where
-    some_inside : {X : Type 0} (y : X) (items : List X) → slice_get (y ∷ items) (length (y ∷ items) - 1) ≡ None → ⊥
-    some_inside y [] none = none-some y (sym none)
-    some_inside y (z ∷ items) none =
-        let index : length (y ∷ z ∷ items) - 1 ≡ suc (length items) = omega arith in
-        let inner : length items ≡ length (z ∷ items) - 1 = omega arith in
-        some_inside z items (ap (λ k. slice_get (z ∷ items) k) (sym inner) ∙ ap (λ k. slice_get (y ∷ z ∷ items) k) (sym index) ∙ none)
-
 -- the number of changes stays far below the greatest number
 pub few_changes : (listed : Listed) (history : List Event) → IsListed listed → IsLegal listed history → version_of history ≤ MAX_EVENTS
 few_changes listed history model legal =
@@ -115,11 +88,15 @@ room_now listed history event spare legal room prepared = elim (true_or_false (i
   | inr stays ↦ some_room listed history event spare room stays legal
 ]
 
+-- memory for three events a class is enough
+three_each : (listed : Listed) (history : List Event) (spare : ℕ) → IsListed listed → 3 * length listed.classes ≤ spare → HasRoom listed history spare
+three_each listed history spare model enough more legal none = omega (arith, three_a_class_follow_lem listed history more model legal none)
+
 -- and then for all that may follow it
-pub room_after : (listed : Listed) (history : List Event) (event : Event) (spare : ℕ) → IsListed listed → IsLegal listed (history ++ event ∷ [])
-    → HasRoom listed history spare → (IsTrue (is_withdraw event) → room_for_withdrawal listed ≤ spare) → HasRoom listed (history ++ event ∷ []) (spare - 1)
-room_after listed history event spare model legal room prepared = elim (true_or_false (is_withdraw event)) [
-  | inl withdraws ↦ three_each listed (history ++ event ∷ []) (spare - 1) model legal (omega (arith, prepared withdraws))
+pub room_after : (listed : Listed) (history : List Event) (event : Event) (spare : ℕ) → IsListed listed → HasRoom listed history spare
+    → (IsTrue (is_withdraw event) → room_for_withdrawal listed ≤ spare) → HasRoom listed (history ++ event ∷ []) (spare - 1)
+room_after listed history event spare model room prepared = elim (true_or_false (is_withdraw event)) [
+  | inl withdraws ↦ three_each listed (history ++ event ∷ []) (spare - 1) model (omega (arith, prepared withdraws))
   | inr stays ↦ room_next listed history event spare room stays
 ]
 
@@ -131,7 +108,7 @@ keeps_next core new journal points version room spare event kept listed_is histo
     let whole : new.history ≡ journal ++ event ∷ [] = history_is ∙ ap (λ l. l ++ event ∷ []) kept.history in
     let is_legal : IsLegal core.listed (journal ++ event ∷ []) =
     subst (λ (l : Listed). IsLegal l (journal ++ event ∷ [])) listed_is (subst (λ (h : List Event). IsLegal new.listed h) whole legal) in
-    let after : HasRoom core.listed (journal ++ event ∷ []) (spare - 1) = room_after core.listed journal event spare kept.model is_legal kept.room prepared in
+    let after : HasRoom core.listed (journal ++ event ∷ []) (spare - 1) = room_after core.listed journal event spare kept.model kept.room prepared in
     record {
       model = subst (λ (l : Listed). IsListed l) (sym listed_is) kept.model;
       legal = subst (λ (l : Listed). IsLegal l (journal ++ event ∷ [])) (sym listed_is) is_legal;
@@ -174,7 +151,7 @@ keeps_new core journal points room spare model empty no_events no_points enough 
       points_of = refl;
       enough = enough;
       changes = refl;
-      room = three_each core.listed [] spare model (nothing_legal core.listed) each;
+      room = three_each core.listed [] spare model each;
     }))
 
 -- the journal with the next event is legal, where the core's history is
