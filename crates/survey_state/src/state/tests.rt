@@ -143,6 +143,5 @@ fn answer_and_withdrawal(rt: HostRuntime) -> Result<(), Fail> {
     }
     assert!(rt; event_at(&mut state, 3) == Some(withdraw(1)));
     assert!(rt; event_at(&mut state, 5).is_none());
-    assert!(rt; Events::class_pair(&state, 1) == state.core().class(1));
     Ok(())
 }
