@@ -103,7 +103,7 @@ fn event_of(core: &Core, entry: &Entry) -> Option<Event>
         (NamesNoClass core.now.listed.criteria entry.now)
         (λ event. Tells core.now.listed entry.now event) }
 {
-    match *entry {
+    match entry {
         Entry::Eliminate(
             Elimination {
                 worker,
@@ -112,10 +112,10 @@ fn event_of(core: &Core, entry: &Entry) -> Option<Event>
                 combination,
             },
         ) => Some(Event::Eliminate {
-            worker,
-            place: core.place(&pair)?,
-            verdict,
-            combination,
+            worker: *worker,
+            place: core.place(pair)?,
+            verdict: *verdict,
+            combination: *combination,
         }),
         Entry::Issue {
             desk,
@@ -123,10 +123,10 @@ fn event_of(core: &Core, entry: &Entry) -> Option<Event>
             plus,
             minus,
         } => Some(Event::Issue {
-            desk,
-            place: core.place(&pair)?,
-            plus,
-            minus,
+            desk: *desk,
+            place: core.place(pair)?,
+            plus: *plus,
+            minus: *minus,
         }),
         Entry::Commit {
             desk,
@@ -136,14 +136,20 @@ fn event_of(core: &Core, entry: &Entry) -> Option<Event>
             minus,
             point,
         } => Some(Event::Commit {
-            desk,
-            question,
-            side,
-            plus,
-            minus,
-            point,
+            desk: *desk,
+            question: *question,
+            side: *side,
+            plus: *plus,
+            minus: *minus,
+            point: *point,
         }),
-        Entry::Close { desk, question } => Some(Event::Close { desk, question }),
-        Entry::Withdraw { desk, answer } => Some(Event::Withdraw { desk, answer }),
+        Entry::Close { desk, question } => Some(Event::Close {
+            desk: *desk,
+            question: *question,
+        }),
+        Entry::Withdraw { desk, answer } => Some(Event::Withdraw {
+            desk: *desk,
+            answer: *answer,
+        }),
     }
 }
