@@ -35,7 +35,7 @@ use Rattle.survey_core.proofs.ReadLemmas.{map_some, mark_at, question_at, issued
 
 -- ---- lists
 -- what holds of each element by its number, after one is rewritten
-each_set : {X : Type 0} (P Q : ℕ → X → Type 0) (xs : List X) (number : ℕ) (to : X) → 1 ≤ number
+pub each_set : {X : Type 0} (P Q : ℕ → X → Type 0) (xs : List X) (number : ℕ) (to : X) → 1 ≤ number
     → ((k : ℕ) (x : X) → slice_get xs k ≡ Some x → P (k + 1) x) → Q number to → ((other : ℕ) (x : X) → number ≢ other → P other x → Q other x)
     → (k : ℕ) (x : X) → slice_get (slice_set xs (number - 1) to) k ≡ Some x → Q (k + 1) x
 each_set {X} P Q xs number to low each here others k x at =
@@ -47,7 +47,7 @@ each_set {X} P Q xs number to low each here others k x at =
     ]
 
 -- after one is put at the end
-each_push : {X : Type 0} (P Q : ℕ → X → Type 0) (xs : List X) (last : X)
+pub each_push : {X : Type 0} (P Q : ℕ → X → Type 0) (xs : List X) (last : X)
     → ((k : ℕ) (x : X) → slice_get xs k ≡ Some x → P (k + 1) x) → Q (length xs + 1) last → ((other : ℕ) (x : X) → P other x → Q other x)
     → (k : ℕ) (x : X) → slice_get (xs ++ last ∷ []) k ≡ Some x → Q (k + 1) x
 each_push {X} P Q xs last each here others k x at =
@@ -59,14 +59,14 @@ each_push {X} P Q xs last each here others k x at =
     ]
 
 -- after each is rewritten
-each_mapped : {X : Type 0} (P Q : ℕ → X → Type 0) (f : X → X) (xs : List X)
+pub each_mapped : {X : Type 0} (P Q : ℕ → X → Type 0) (f : X → X) (xs : List X)
     → ((k : ℕ) (x : X) → slice_get xs k ≡ Some x → P (k + 1) x) → ((number : ℕ) (x : X) → P number x → Q number (f x))
     → (k : ℕ) (y : X) → slice_get (map f xs) k ≡ Some y → Q (k + 1) y
 each_mapped {X} P Q f xs each go k y at =
     let found : (x : X) × (slice_get xs k ≡ Some x) × (f x ≡ y) = map_some f (slice_get xs k) y (sym (slice_get-map f xs k) ∙ at) in
     subst (λ (z : X). Q (k + 1) z) found.2 (go (k + 1) found.0 (each k found.0 found.1))
 
-flat_map-same : {X Y : Type 0} (f g : X → List Y) (xs : List X) → Each (λ x. f x ≡ g x) xs → flat_map f xs ≡ flat_map g xs
+pub flat_map-same : {X Y : Type 0} (f g : X → List Y) (xs : List X) → Each (λ x. f x ≡ g x) xs → flat_map f xs ≡ flat_map g xs
 flat_map-same f g [] hs = refl
 flat_map-same f g (x ∷ xs) hs =
     flat_map-cons f x xs ∙ ap (λ l. l ++ flat_map f xs) hs.0 ∙ ap (λ l. g x ++ l) (flat_map-same f g xs hs.1) ∙ sym (flat_map-cons g x xs)
@@ -94,18 +94,18 @@ map_map : {X Y : Type 0} (g : X → Y) (f : X → X) → ((x : X) → g (f x) �
 map_map g f h [] = refl
 map_map g f h (x ∷ xs) = ap (λ y. y ∷ map g (map f xs)) (h x) ∙ ap (λ l. g x ∷ l) (map_map g f h xs)
 
-map_set : {X Y : Type 0} (g : X → Y) (xs : List X) (i : ℕ) (x y : X) → slice_get xs i ≡ Some x → g y ≡ g x → map g (slice_set xs i y) ≡ map g xs
+pub map_set : {X Y : Type 0} (g : X → Y) (xs : List X) (i : ℕ) (x y : X) → slice_get xs i ≡ Some x → g y ≡ g x → map g (slice_set xs i y) ≡ map g xs
 map_set g xs i x y at same = map-set_same g xs i y x (same ∙ ap g (sym (get_or_from_slice_get xs i x x at)))
 
 -- ---- numbers
-other_no : (a b : ℕ) → a ≢ b → (a == b) ≡ false
+pub other_no : (a b : ℕ) → a ≢ b → (a == b) ≡ false
 other_no a b h = grind (arith, nat_tests)
 
-or_nothing : (b : Bool) → (b || false) ≡ b
+pub or_nothing : (b : Bool) → (b || false) ≡ b
 or_nothing true = refl
 or_nothing false = refl
 
-or_something : (b : Bool) → (b || true) ≡ true
+pub or_something : (b : Bool) → (b || true) ≡ true
 or_something true = refl
 or_something false = refl
 

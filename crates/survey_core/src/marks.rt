@@ -182,6 +182,13 @@ impl Marks {
         self.questions[number as usize - 1].place
     }
 
+    /// How many questions were issued.
+    pub fn asked(&self) -> u32
+        ensures { result ≡ length self.now.questions }
+    {
+        self.questions.len() as u32
+    }
+
     /// How many questions are open.
     pub fn open_questions(&self) -> u32
         ensures { result ≡ count_by is_open_mark self.now.questions }

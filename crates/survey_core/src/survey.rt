@@ -250,14 +250,6 @@ impl Core {
         }
     }
 
-    /// Whether the class at the place has an eliminate that stands.
-    fn is_eliminated(&self, place: u32) -> bool
-        requires { IsPlace self.now.listed place }
-        ensures { result ≡ is_eliminated self.now.history place }
-    {
-        self.marks.class(place).ranking.is_eliminated()
-    }
-
     /// Whether the point meets the answers and that the class is ranked so.
     fn is_met(&self, place: u32, side: Side, point: &Vector) -> bool
         requires place { IsPlace self.now.listed place }
@@ -371,11 +363,26 @@ impl Core {
         self.marks.class(place).ranking.is_ranked()
     }
 
-    /// Whether each class has one.
+    /// Whether the class at the place has an eliminate that stands.
+    pub fn is_eliminated(&self, place: u32) -> bool
+        requires { IsPlace self.now.listed place }
+        ensures { result ≡ is_eliminated self.now.history place }
+    {
+        self.marks.class(place).ranking.is_eliminated()
+    }
+
+    /// Whether each class has an eliminate or a commit that stands.
     pub fn all_ranked(&self) -> bool
         ensures { IsTrue result ↔ RanksEachClass self.now.listed self.now.history }
     {
         self.marks.all_ranked()
+    }
+
+    /// The number of questions that were asked.
+    pub fn asked(&self) -> u32
+        ensures { result ≡ length (issued self.now.history) }
+    {
+        self.marks.asked()
     }
 
     /// The number of open questions.

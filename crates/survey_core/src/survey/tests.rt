@@ -273,6 +273,30 @@ fn withdrawn_answer(rt: HostRuntime) -> Result<(), Fail> {
     run(&rt, rt.alloc(), &rows)
 }
 
+/// A withdrawal takes back an elimination, and no question.
+#[test]
+fn asked_and_eliminated(rt: HostRuntime) -> Result<(), Fail> {
+    let model = Model::new(&[2, 2, 2], 3).ok().ok_or("model")?;
+    let mut core = Core::new(rt.alloc(), &model)?;
+    let rows = [
+        (issue(1, [2, 1, 1], [1, 2, 1]), None),
+        (
+            commit(1, Side::Equal, [2, 1, 1], [1, 2, 1], [1, 1, 1]),
+            None,
+        ),
+        (eliminate(4, Side::Right, [0, 0, 1], &[(1, -1)])?, Some(4)),
+        (withdraw(1), None),
+    ];
+    for (event, eliminated) in rows {
+        assert_eq!(rt; offer(&rt, &mut core, &event), Ok(()));
+        assert_eq!(rt; core.asked(), 1);
+        for place in 1..=core.model().class_count() {
+            assert_eq!(rt; core.is_eliminated(place), eliminated == Some(place));
+        }
+    }
+    Ok(())
+}
+
 /// All classes are ranked; then a withdrawal leaves the eliminations that rest only on the first answer.
 #[test]
 fn complete_and_back(rt: HostRuntime) -> Result<(), Fail> {
