@@ -1,0 +1,4 @@
+pub mod HelloView
+pub mod Members
+pub mod Sides
+pub mod Messages
