@@ -4,3 +4,4 @@ pub mod CountLemmas
 pub mod DotLemmas
 pub mod GainLemmas
 pub mod DifferenceSteps
+pub mod RankLemmas

@@ -1,37 +1,18 @@
 -- What a proof, or two vectors that open the pair, make a decision.
 use Rattle.std.proofs.Common.{◌≡◌, ◌^◌, ◌<◌, ℕ, List, ℤ, pos, unsigned_abs, refl, subst, arith}
 use Rattle.std.specs.Int.{◌∣◌}
-use Rattle.std.proofs.lemmas.Int.{ints}
 use Rattle.std.proofs.Math.Nat.{eq-one_of_dvd-one}
 use Rattle.criteria_model.specs.declared.pairs.Pair.{Pair}
 use Rattle.criteria_model.specs.declared.pairs.Answer.{Answer}
 use Rattle.criteria_model.specs.declared.pairs.Side.{Side}
-use Rattle.criteria_model.specs.declared.pairs.Side.TheVariants.{Left, Right, Equal}
-use Rattle.criteria_model.specs.Answers.{Ranks, MeetsAll, IsRanked, IsOpen, Opens}
+use Rattle.criteria_model.specs.Answers.{MeetsAll, IsRanked, IsOpen, Opens}
+use Rattle.criteria_model.proofs.RankLemmas.{ranks_once, opened_is_open}
 use Rattle.farkas_check.specs.declared.combination.Combination.{Combination}
 use Rattle.farkas_check.specs.Proof.{Proves}
 use Rattle.simplex.specs.Rows.{IsCoprime}
 use Rattle.decider.specs.declared.decision.Decision.TheVariants.{Undecided, Implied}
 use Rattle.decider.specs.Decisions.{numbers_of, IsDecision, IsExact}
 use Rattle.decider.proofs.Verdicts.{ranked_of}
-
--- ---- how a vector ranks the pair
-
-ranks_once : (levels : List ℕ) (v : List ℤ) (pair : Pair) (one other : Side) → Ranks levels v pair one → Ranks levels v pair other → one ≡ other
-ranks_once levels v pair Left Left h k = refl
-ranks_once levels v pair Left Right h k = absurd (omega (arith, ints, h, k))
-ranks_once levels v pair Left Equal h k = absurd (omega (arith, ints, h, k))
-ranks_once levels v pair Right Left h k = absurd (omega (arith, ints, h, k))
-ranks_once levels v pair Right Right h k = refl
-ranks_once levels v pair Right Equal h k = absurd (omega (arith, ints, h, k))
-ranks_once levels v pair Equal Left h k = absurd (omega (arith, ints, h, k))
-ranks_once levels v pair Equal Right h k = absurd (omega (arith, ints, h, k))
-ranks_once levels v pair Equal Equal h k = refl
-
-opened : (levels : List ℕ) (answers : List Answer) (pair : Pair) (plus minus : List ℤ) → Opens levels answers pair plus minus → IsOpen levels answers pair
-opened levels answers pair plus minus opens Left ranked = omega (arith, ints, ranked minus opens.minus_meets, opens.less)
-opened levels answers pair plus minus opens Right ranked = omega (arith, ints, ranked plus opens.plus_meets, opens.more)
-opened levels answers pair plus minus opens Equal ranked = omega (arith, ints, ranked plus opens.plus_meets, opens.more)
 
 -- ---- a proof
 
@@ -56,11 +37,11 @@ unit_scale_reduced combination one d divides = eq-one_of_dvd-one (subst (λ (n :
 
 pub opened_decision : (levels : List ℕ) (answers : List Answer) (pair : Pair) (plus minus : List ℤ) → Opens levels answers pair plus minus → IsCoprime plus → IsCoprime minus
     → IsDecision levels answers pair (Undecided plus minus)
-opened_decision levels answers pair plus minus is plus_reduced minus_reduced = (is, opened levels answers pair plus minus is, plus_reduced, minus_reduced)
+opened_decision levels answers pair plus minus is plus_reduced minus_reduced = (is, opened_is_open levels answers pair plus minus is, plus_reduced, minus_reduced)
 
 pub opened_exact : (levels : List ℕ) (answers : List Answer) (pair : Pair) (plus minus : List ℤ) → Opens levels answers pair plus minus → IsExact levels answers pair (Undecided plus minus)
 opened_exact levels answers pair plus minus is =
-    let is_open : IsOpen levels answers pair = opened levels answers pair plus minus is in
+    let is_open : IsOpen levels answers pair = opened_is_open levels answers pair plus minus is in
     record {
       open_pair = (λ none. is_open, λ h. tt);
       ranked_pair = λ side. (λ none. absurd none, λ ranked. is_open side ranked);

@@ -9,9 +9,6 @@ use Rattle.edges.proofs.LineLaws.{HasLineEnd-line, HasNoLineEnd-not, first_line-
 
 -- ---- one line
 
-cons_rest : {X : Type 0} (x y : X) (xs ys : List X) → x ∷ xs ≡ y ∷ ys → xs ≡ ys
-cons_rest x y xs ys same = cc
-
 -- a text that begins with a line begins with no other
 pub line_once : (line other rest other_rest : List ℕ) → HasNoLineEnd line → HasNoLineEnd other
     → line ++ line_end ∷ rest ≡ other ++ line_end ∷ other_rest → (line ≡ other) × (rest ≡ other_rest)
@@ -20,7 +17,7 @@ line_once line other rest other_rest unbroken other_unbroken same =
     sym (first_line-line line rest unbroken) ∙ ap first_line same ∙ first_line-line other other_rest other_unbroken in
     let rests : other ++ line_end ∷ rest ≡ other ++ line_end ∷ other_rest =
     subst (λ (front : List ℕ). front ++ line_end ∷ rest ≡ other ++ line_end ∷ other_rest) lines same in
-    (lines, cons_rest line_end line_end rest other_rest (append_cancel_left other (line_end ∷ rest) (line_end ∷ other_rest) rests))
+    (lines, ap (drop 1) (append_cancel_left other (line_end ∷ rest) (line_end ∷ other_rest) rests))
 
 -- ---- lines
 

@@ -64,17 +64,13 @@ option_sorted : (rest : Stage → List Tail) (o : Option Stage) (l r : ℕ) → 
 option_sorted rest None l r h = tt
 option_sorted rest (Some next) l r h = with_levels_sorted l r (rest next) (h next)
 
--- the first levels of what an option gives
-option_head : (rest : Stage → List Tail) (o : Option Stage) (l r : ℕ) (t : Tail) → Among t (option_map_or (λ next. with_levels l r (rest next)) o [])
-    → (u : Tail) × ((l, r) ∷ u ≡ t)
-option_head rest o l r t h = let found = option_found rest o l r t h in (found.2.0, found.2.2)
-
 row_head : (rest : Stage → List Tail) (stage : Stage) (n l : ℕ) (t : Tail) → Among t (row_tails rest stage n l)
-    → (r : ℕ) × (1 ≤ r) × ((u : Tail) × ((l, r) ∷ u ≡ t))
+    → (r : ℕ) × (1 ≤ r) × (u : Tail) × ((l, r) ∷ u ≡ t)
 row_head rest stage n l t h =
     let a = among-flat_map (option_tails rest stage l) t (range_with_len 1 n) h in
     let b = among-range a.0 1 n a.1 in
-    (a.0, b.0, option_head rest (stage_after stage l a.0) l a.0 t a.2)
+    let found = option_found rest (stage_after stage l a.0) l a.0 t a.2 in
+    (a.0, b.0, found.2.0, found.2.2)
 
 row_sorted : (rest : Stage → List Tail) (stage : Stage) (n l : ℕ) → 1 ≤ l → ((next : Stage) → Sorted Precedes (rest next))
     → Sorted Precedes (row_tails rest stage n l)
@@ -82,9 +78,9 @@ row_sorted rest stage n l low h =
     sorted-flat_map-range Precedes (option_tails rest stage l) 1 n
     (λ r a b. option_sorted rest (stage_after stage l r) l r h)
     (λ r s t u a b c m k.
-    let x = option_head rest (stage_after stage l r) l r t m in
-    let y = option_head rest (stage_after stage l s) l s u k in
-    subst₂ Precedes x.1 y.1 (differing_precede l r l s x.0 y.0 low a low (omega arith) (inr (refl, b))))
+    let x = option_found rest (stage_after stage l r) l r t m in
+    let y = option_found rest (stage_after stage l s) l s u k in
+    subst₂ Precedes x.2.2 y.2.2 (differing_precede l r l s x.2.0 y.2.0 low a low (omega arith) (inr (refl, b))))
 
 differing_sorted : (rest : Stage → List Tail) (stage : Stage) (n : ℕ) → ((next : Stage) → Sorted Precedes (rest next))
     → Sorted Precedes (differing_tails rest stage n)
@@ -94,7 +90,7 @@ differing_sorted rest stage n h =
     (λ l m t u a b c p q.
     let x = row_head rest stage n l t p in
     let y = row_head rest stage n m u q in
-    subst₂ Precedes x.2.1 y.2.1 (differing_precede l x.0 m y.0 x.2.0 y.2.0 a x.1 (omega arith) y.1 (inl b)))
+    subst₂ Precedes x.3 y.3 (differing_precede l x.0 m y.0 x.2 y.2 a x.1 (omega arith) y.1 (inl b)))
 
 pub tails_sorted : (levels : List ℕ) (d : ℕ) (stage : Stage) → All (λ n. n ≤ 25) levels → Sorted Precedes (tails levels d stage)
 tails_sorted [] zero Same few = tt

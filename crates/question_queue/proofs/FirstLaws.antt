@@ -6,7 +6,7 @@ use Rattle.std.proofs.lemmas.Bool.Decides.{nat_tests}
 use Rattle.std.proofs.lemmas.List.Sums.{fails_before_first, passes_at_first}
 use Rattle.question_queue.specs.declared.marks.Mark.{Mark}
 use Rattle.question_queue.specs.Pools.{new_mark, is_job, as_given, given_out}
-use Rattle.question_queue.specs.Laws.{IsFirst, FirstPlacesAreFirst, JobsAreGivenOnce}
+use Rattle.question_queue.specs.Laws.{IsFirstPlace, FirstPlacesAreFirst, JobsAreGivenOnce}
 use Rattle.question_queue.proofs.Places.{item_at}
 use Rattle.question_queue.proofs.PoolLaws.{inside, given_out_is}
 
@@ -17,7 +17,7 @@ same_item marks i mark at = let found = item_at marks i new_mark (inside marks i
 pub first_places_are_first : FirstPlacesAreFirst
 first_places_are_first test marks = by (nat_lt (position_or_len test marks) (length marks)) refl
   where
-    first : position_or_len test marks < length marks → IsFirst test marks (position_or_len test marks + 1)
+    first : position_or_len test marks < length marks → IsFirstPlace test marks (position_or_len test marks + 1)
     first l = let before = position_or_len test marks in record {
       low = omega arith;
       high = omega arith;
@@ -28,7 +28,7 @@ first_places_are_first test marks = by (nat_lt (position_or_len test marks) (len
     }
 
     by : (b : Bool) → nat_lt (position_or_len test marks) (length marks) ≡ b
-        → MatchOption (option_map (λ before. before + 1) (cond b (Some (position_or_len test marks)) None)) (All (λ mark. IsFalse (test mark)) marks) (λ place. IsFirst test marks place)
+        → MatchOption (option_map (λ before. before + 1) (cond b (Some (position_or_len test marks)) None)) (All (λ mark. IsFalse (test mark)) marks) (λ place. IsFirstPlace test marks place)
     by true e = first (grind (arith, nat_tests))
     by false e = λ k d l. fails_before_first test marks k d (grind (arith, nat_tests))
 

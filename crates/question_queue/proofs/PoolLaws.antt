@@ -166,28 +166,6 @@ changes change old marks kept place m view at = record {
   len = length-set marks (place - 1) (change m) ∙ ap (λ (v : Pooled). length v.marks) view;
 }
 
--- of a list of which the first items are changed, the next one is as it was
-mapped_at : {X : Type 0} (f : X → X) (xs : List X) (i : ℕ) (d : X) → get_or (map f (take i xs) ++ drop i xs) i d ≡ get_or xs i d
-mapped_at f [] zero d = refl
-mapped_at f [] (suc i) d = refl
-mapped_at f (x ∷ xs) zero d = refl
-mapped_at f (x ∷ xs) (suc i) d = mapped_at f xs i d
-
-mapped_next : {X : Type 0} (f : X → X) (xs : List X) (i : ℕ) (d y : X) → i < length xs → y ≡ f (get_or xs i d)
-    → set (map f (take i xs) ++ drop i xs) i y ≡ map f (take (suc i) xs) ++ drop (suc i) xs
-mapped_next f [] i d y l is = absurd (omega arith)
-mapped_next f (x ∷ xs) zero d y l is = ap (λ z. z ∷ xs) is
-mapped_next f (x ∷ xs) (suc i) d y l is = ap (λ rest. f x ∷ rest) (mapped_next f xs i d y (omega arith) is)
-
--- one more item is changed
-pub mapped_more : {X : Type 0} (f : X → X) (xs ys : List X) (i : ℕ) (d y : X) → ys ≡ map f (take i xs) ++ drop i xs → i < length xs → y ≡ f (get_or ys i d)
-    → set ys i y ≡ map f (take (i + 1) xs) ++ drop (i + 1) xs
-mapped_more f xs ys i d y so_far l is =
-    let e : suc i ≡ i + 1 = omega arith in
-    ap (λ zs. set zs i y) so_far
-    ∙ mapped_next f xs i d y l (is ∙ ap (λ zs. f (get_or zs i d)) so_far ∙ ap f (mapped_at f xs i d))
-    ∙ ap (λ k. map f (take k xs) ++ drop k xs) e
-
 -- a job's place is one of the list, where it isn't past the end
 pub job_within : (pool : Pooled) (marks : List Mark) (kept : List (Option Kept)) (version i len : ℕ) → record { marks = marks; kept = kept } ≡ pool
     → i ≡ position_or_len (is_job version) pool.marks

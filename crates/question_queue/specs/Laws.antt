@@ -4,7 +4,7 @@ use Rattle.question_queue.specs.declared.marks.Mark.{Mark}
 use Rattle.question_queue.specs.Pools.{first_place, is_job, given_out}
 
 -- the mark at the place passes the test, and none before it does
-pub record IsFirst (test : Mark → Bool) (marks : List Mark) (place : ℕ) : Type 0 where
+pub record IsFirstPlace (test : Mark → Bool) (marks : List Mark) (place : ℕ) : Type 0 where
   pub low : 1 ≤ place
   pub high : place ≤ length marks
   pub passes : (mark : Mark) → slice_get marks (place - 1) ≡ Some mark → IsTrue (test mark)
@@ -13,7 +13,7 @@ pub record IsFirst (test : Mark → Bool) (marks : List Mark) (place : ℕ) : Ty
 -- a first place is that of a mark that passes, where none before it does; where there is none, no mark passes
 abbrev pub FirstPlacesAreFirst : Type 0
 FirstPlacesAreFirst =
-    (test : Mark → Bool) (marks : List Mark) → MatchOption (first_place test marks) (All (λ mark. IsFalse (test mark)) marks) (λ place. IsFirst test marks place)
+    (test : Mark → Bool) (marks : List Mark) → MatchOption (first_place test marks) (All (λ mark. IsFalse (test mark)) marks) (λ place. IsFirstPlace test marks place)
 
 -- a class that was given out is no job at that version any more
 abbrev pub JobsAreGivenOnce : Type 0

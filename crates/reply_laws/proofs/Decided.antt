@@ -15,7 +15,7 @@ use Rattle.criteria_model.proofs.GainLemmas.{ranks_favours, favours_ranks}
 use Rattle.row_laws.proofs.RowLemmas.{dot-neg, length-minus}
 use Rattle.std.proofs.lemmas.List.{length-map}
 use Rattle.criteria_model.proofs.LevelLemmas.{length-has_on, increments-cons}
-use Rattle.survey_core.proofs.RankingLemmas.{ranks_once}
+use Rattle.criteria_model.proofs.RankLemmas.{ranks_once}
 use Rattle.survey_core.proofs.ListSteps.{Each, Each-append, Each-All, All-Each, Each-front, Each-back}
 use Rattle.reply_laws.proofs.RowPoints.{LinearRow, IsShort, MeetsRow, rows_decided}
 use Rattle.reply_laws.specs.Laws.{IsDecided, EachIsDecided}

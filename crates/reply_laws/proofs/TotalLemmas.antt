@@ -14,7 +14,7 @@ use Rattle.survey_core.specs.declared.events.Event.TheVariants.{Eliminate, Issue
 use Rattle.survey_core.specs.Histories.{item_at, standing, issued, is_unended, open_questions, committed, class_at, class_of, place_of}
 use Rattle.survey_core.specs.Legal.{IsPlace, most_events, IsLegal}
 use Rattle.survey_core.specs.declared.limits.TheConstants.{MAX_EVENTS, MAX_OPEN_QUESTIONS}
-use Rattle.survey_core.proofs.ListSteps.{Each, some_and, filtered_range}
+use Rattle.survey_core.proofs.ListSteps.{Each, Each-at, some_and, filtered_range}
 use Rattle.row_laws.proofs.ItemLemmas.{item_found, item_within, item_inside}
 use Rattle.survey_core.proofs.ReadLemmas.{contains_filtered}
 use Rattle.survey_core.proofs.StandingLemmas.{commit_count, OfCommits, length-filter_map}
@@ -33,7 +33,6 @@ use Rattle.survey_replies.specs.Outcomes.{Outcome}
 use Rattle.survey_replies.specs.Outcomes as outcome
 use Rattle.survey_replies.specs.Interview.{Interview, interview, answered, answered_question}
 use Rattle.survey_replies.specs.ReplyLaw.{IsFirst, IsOpenClass, HasOpenClass, IsUnaskedOpenClass, IsQuestion, AreSpent, IsNextReply, IsAnswerReply, IsValuesReply, IsWithdrawReply, IsReplyTo}
-use Rattle.survey_replies.proofs.JournalLemmas.{each_at}
 use Rattle.reply_laws.specs.Laws.{IsDecided}
 
 -- the answers rank each class or leave it open
@@ -217,7 +216,7 @@ has_reply_lem listed history (request.answer question side) model legal decided 
     let sound : IsSound listed history = sound_history listed history legal in
     let found : (reply : AnswerReply) × IsAnswerReply listed (interview listed history) question reply =
     answer_reply listed (interview listed history) decided question
-    (λ place asks. each_at (IsPlace listed) (issued history) (question - 1) place sound.places (item_found (issued history) question place asks))
+    (λ place asks. Each-at (IsPlace listed) (issued history) (question - 1) place sound.places (item_found (issued history) question place asks))
     (λ is. unended_test history question is.0 is.1) in
     (outcome.answer found.0, found.1)
 has_reply_lem listed history request.look model legal decided = (outcome.look 0, tt)

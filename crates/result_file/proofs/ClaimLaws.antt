@@ -7,6 +7,7 @@ use Rattle.criteria_model.specs.declared.pairs.Pair.{Pair}
 use Rattle.criteria_model.specs.declared.pairs.Answer.{Answer}
 use Rattle.criteria_model.specs.Worth.{increments}
 use Rattle.criteria_model.specs.Criteria.{Criteria, IsModel}
+use Rattle.criteria_model.proofs.LevelLemmas.{length-le-increments}
 use Rattle.text_fields.specs.Spelling.{IsCertificate}
 use Rattle.std.proofs.lemmas.List.Elements.{All-nil, All-cons, All-append}
 use Rattle.criteria_model.specs.Pairs.{IsFit}
@@ -39,13 +40,6 @@ use Rattle.result_file.proofs.EliminationLaws.{IsReadElimination, elimination_ta
 
 -- ---- the numbers of criteria and increments
 
-few_criteria : (levels : List ℕ) → All (λ n. 2 ≤ n) levels → length levels ≤ increments levels
-few_criteria [] h = omega arith
-few_criteria (n ∷ levels) h =
-    let here : 2 ≤ n = h 0 n (omega arith) in
-    let others = few_criteria levels (λ k d lt. h (suc k) d (omega arith)) in
-    omega (arith, sum_by-cons (λ (m : ℕ). m - 1) n levels)
-
 pub record IsSmall (criteria : Criteria) : Type 0 where
   pub some : 1 ≤ length criteria.levels
   pub most : length criteria.levels ≤ 24
@@ -54,7 +48,7 @@ pub record IsSmall (criteria : Criteria) : Type 0 where
 
 pub is_small : (criteria : Criteria) → IsModel criteria → IsSmall criteria
 is_small criteria m =
-    let few = few_criteria criteria.levels m.two_levels in
+    let few = length-le-increments criteria.levels m.two_levels in
     record {
       some = m.some;
       most = omega (arith, few, m.few_increments);

@@ -55,7 +55,7 @@ use Rattle.result_file.proofs.ContentLaws.{more_claims, no_claims}
 use Rattle.result_file.proofs.FirstParts.{some_flaw, some_part}
 use Rattle.result_file.proofs.EventLaws.{is_event, not_allowed, stands_read, stands_within}
 use Rattle.result_file.proofs.StepLaws.{lines_push}
-use Rattle.result_file.proofs.VerdictLaws.{ends_checked}
+use Rattle.result_file.proofs.VerdictLaws.{one_unbroken, ends_checked}
 
 -- ---- a model without a fault
 
@@ -278,9 +278,6 @@ piece_ends (ended content) (byte ∷ piece) number none = none (Invalid number F
 record HasCome (text : List ℕ) (lines : List (List ℕ)) (stage : Stage) (rest : List ℕ) : Type 0 where
   split : Splits text lines rest
   says : Says lines stage
-
-one_unbroken : (line : List ℕ) → HasNoLineEnd line → All HasNoLineEnd (line ∷ [])
-one_unbroken line unbroken = All-cons HasNoLineEnd line [] unbroken (All-nil HasNoLineEnd)
 
 too_long : (text : List ℕ) (lines : List (List ℕ)) (stage : Stage) (rest first : List ℕ) → HasCome text lines stage rest → first_line rest ≡ first
     → MAX_LINE < length first → HasNone text → ⊥

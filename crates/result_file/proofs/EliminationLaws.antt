@@ -8,7 +8,7 @@ use Rattle.std.proofs.lemmas.List.Elements.{All-nil}
 use Rattle.text_fields.specs.Spelling.{EndsNumber, IsCertificate, IsList, listed, is_next}
 use Rattle.text_fields.specs.Reading.{read_word, read_number, read_certificate, read_list}
 use Rattle.text_fields.specs.Laws.{IsField}
-use Rattle.text_fields.proofs.NumberLaws.{numbers_field, certificates_field, bind_some, some_is}
+use Rattle.text_fields.proofs.NumberLaws.{numbers_field, certificates_field, starts_minus, bind_some, some_is}
 use Rattle.text_fields.proofs.ListLaws.{list_field}
 use Rattle.text_fields.proofs.WordLaws.{word_field}
 use Rattle.criteria_model.specs.declared.pairs.Answer.{Answer}
@@ -66,9 +66,6 @@ no_minus cite cites rest h =
     sym (regroup4 (decimal cite.answer) (codes ":") (signed_decimal cite.weight) others rest) in
     ap (is_next 45) e ∙ no_minus_in (decimal cite.answer) _ (decimal_nonempty cite.answer lt) (first_digit cite.answer lt)
 
-starts_minus : (text : List ℕ) → is_next 45 text ≡ true → text ≡ 45 ∷ drop 1 text
-starts_minus [] e = absurd cc
-starts_minus (b ∷ text) e = let same : b ≡ 45 = grind (arith, nat_tests) in ap (λ (x : ℕ). x ∷ text) same
 
 -- a list with a cite is written as one
 some_cites : (cites : List Cite) → 1 ≤ length cites → cites_text cites ≡ listed cite_text cites
@@ -142,7 +139,8 @@ combination_field increments low high = record {
       let scale = certificates_field.again combination.scale (codes " " ++ (listed signed_decimal combination.increments ++ (codes " " ++ (cites_text combination.answers ++ rest)))) h.scale refl in
       let weights = (weights_field increments low high).again combination.increments (codes " " ++ (cites_text combination.answers ++ rest)) h.weights (refl, refl) in
       let cites = cites_field.again combination.answers rest h.cites ends in
-      ap (read_combination increments) (sym (regroup5 (signed_decimal combination.scale) (codes " ") (listed signed_decimal combination.increments) (codes " ") (cites_text combination.answers) rest)) ∙ rw (scale, weights, cites) refl;
+      ap (read_combination increments) (sym (regroup5 (signed_decimal combination.scale) (codes " ") (listed signed_decimal combination.increments)
+      (codes " ") (cites_text combination.answers) rest)) ∙ rw (scale, weights, cites) refl;
 }
 
 -- ---- eliminate lines
@@ -175,7 +173,8 @@ elimination_takes criteria increments line elimination low high low' high' e =
     let ranking = (ranking_field criteria low high).takes b.0.1 r.0.0 r.0.1 r.1 in
     let second = (word_field (codes " ")).takes r.0.1 b'.0.0 b'.0.1 b'.1 in
     let combination = (combination_field increments low' high').takes b'.0.1 c.0.0 c.0.1 c.1 in
-    let whole = joined6 line (codes "eliminate ") (decimal n.0.0) (codes " ") (ranking_text r.0.0) (codes " ") (combination_text c.0.0) w.0.1 n.0.1 b.0.1 r.0.1 b'.0.1 c.0.1 word.0 worker.0 blank.0 ranking.0 second.0 combination.0 in
+    let whole = joined6 line (codes "eliminate ") (decimal n.0.0) (codes " ") (ranking_text r.0.0) (codes " ")
+    (combination_text c.0.0) w.0.1 n.0.1 b.0.1 r.0.1 b'.0.1 c.0.1 word.0 worker.0 blank.0 ranking.0 second.0 combination.0 in
     let line_is : line ≡ elimination_line found = whole ∙ rw end.0 (append-nil _) in
     subst (λ (x : Elimination). (line ≡ elimination_line x) × IsReadElimination criteria increments x) end.1
     (line_is, record { worker = worker.1; pair = ranking.1; combination = combination.1 })
@@ -184,7 +183,10 @@ pub elimination_again : (criteria increments : ℕ) (elimination : Elimination) 
     → IsReadElimination criteria increments elimination → read_elimination criteria increments (elimination_line elimination) ≡ Some elimination
 unfolding read_elimination
 elimination_again criteria increments elimination low high low' high' h =
-    let worker = (numbers_field 16 (lit< tt)).again elimination.worker (codes " " ++ (ranking_text (ranking_of elimination) ++ (codes " " ++ (combination_text elimination.combination ++ [])))) h.worker refl in
+    let worker = (numbers_field 16 (lit< tt)).again elimination.worker (codes " " ++ (ranking_text (ranking_of elimination)
+    ++ (codes " " ++ (combination_text elimination.combination ++ [])))) h.worker refl in
     let ranking = (ranking_field criteria low high).again (ranking_of elimination) (codes " " ++ (combination_text elimination.combination ++ [])) h.pair tt in
     let combination = (combination_field increments low' high').again elimination.combination [] h.combination (tt, refl) in
-    ap (read_elimination criteria increments) (sym (append-nil (elimination_line elimination)) ∙ sym (regroup6 (codes "eliminate ") (decimal elimination.worker) (codes " ") (ranking_text (ranking_of elimination)) (codes " ") (combination_text elimination.combination) [])) ∙ rw (worker, ranking, combination) refl
+    ap (read_elimination criteria increments) (sym (append-nil (elimination_line elimination))
+    ∙ sym (regroup6 (codes "eliminate ") (decimal elimination.worker) (codes " ") (ranking_text (ranking_of elimination)) (codes " ")
+    (combination_text elimination.combination) [])) ∙ rw (worker, ranking, combination) refl

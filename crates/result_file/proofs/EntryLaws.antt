@@ -157,7 +157,8 @@ issue_takes format criteria line entry m e =
     let pair = (pair_field (length criteria.levels) s.some s.most).takes b.0.1 p.0.0 p.0.1 p.1 in
     let second = (word_field (codes " ")).takes p.0.1 b'.0.0 b'.0.1 b'.1 in
     let vectors = (vectors_field criteria m).takes b'.0.1 v.0.0 v.0.1 v.1 in
-    let whole = joined6 line (codes "issue ") (decimal d.0.0) (codes " ") (pair_text p.0.0) (codes " ") (vectors_text v.0.0.0 v.0.0.1) w.0.1 d.0.1 b.0.1 p.0.1 b'.0.1 v.0.1 word.0 desk.0 blank.0 pair.0 second.0 vectors.0 in
+    let whole = joined6 line (codes "issue ") (decimal d.0.0) (codes " ") (pair_text p.0.0) (codes " ")
+    (vectors_text v.0.0.0 v.0.0.1) w.0.1 d.0.1 b.0.1 p.0.1 b'.0.1 v.0.1 word.0 desk.0 blank.0 pair.0 second.0 vectors.0 in
     let line_is : line ≡ entry_line found = whole ∙ rw end.0 (append-nil _) in
     subst (Spells format criteria line) end.1 (line_is, (desk.1, pair_form criteria p.0.0 pair.1, vectors.1.0, vectors.1.1))
 
@@ -171,7 +172,8 @@ issue_again criteria desk pair plus minus m desk_form pair_has plus_form minus_f
     let d = desk_field.again desk (codes " " ++ (pair_text pair ++ tail)) desk_form refl in
     let p = (pair_field (length criteria.levels) s.some s.most).again pair tail (pair_read criteria pair pair_has) (refl, refl) in
     let v = (vectors_field criteria m).again (plus, minus) [] (plus_form, minus_form) (tt, refl) in
-    ap (read_issue (length criteria.levels) (increments criteria.levels)) (sym (append-nil (issue_line desk pair plus minus)) ∙ sym (regroup6 (codes "issue ") (decimal desk) (codes " ") (pair_text pair) (codes " ") (vectors_text plus minus) [])) ∙ rw (d, p, v) refl
+    ap (read_issue (length criteria.levels) (increments criteria.levels)) (sym (append-nil (issue_line desk pair plus minus))
+    ∙ sym (regroup6 (codes "issue ") (decimal desk) (codes " ") (pair_text pair) (codes " ") (vectors_text plus minus) [])) ∙ rw (d, p, v) refl
 
 regroup8 : {X : Type 0} (a b c d e f g h t : List X)
     → a ++ (b ++ (c ++ (d ++ (e ++ (f ++ (g ++ (h ++ t))))))) ≡ (((((((a ++ b) ++ c) ++ d) ++ e) ++ f) ++ g) ++ h) ++ t
@@ -201,7 +203,8 @@ commit_takes format criteria line entry m e =
     let third = (word_field (codes " ")).takes v.0.1 b''.0.0 b''.0.1 b''.1 in
     let point = (vector_field criteria m).takes b''.0.1 p.0.0 p.0.1 p.1 in
     let front : List ℕ = codes "commit " ++ numbers_text n.0.0.0 n.0.0.1 ++ codes " " ++ side_text s.0.0 ++ codes " " ++ vectors_text v.0.0.0 v.0.0.1 in
-    let front_is = joined6 line (codes "commit ") (numbers_text n.0.0.0 n.0.0.1) (codes " ") (side_text s.0.0) (codes " ") (vectors_text v.0.0.0 v.0.0.1) w.0.1 n.0.1 b.0.1 s.0.1 b'.0.1 v.0.1 word.0 numbers.0 blank.0 side.0 second.0 vectors.0 in
+    let front_is = joined6 line (codes "commit ") (numbers_text n.0.0.0 n.0.0.1) (codes " ") (side_text s.0.0) (codes " ")
+    (vectors_text v.0.0.0 v.0.0.1) w.0.1 n.0.1 b.0.1 s.0.1 b'.0.1 v.0.1 word.0 numbers.0 blank.0 side.0 second.0 vectors.0 in
     let whole = joined3 line front (codes " ") (vector_text p.0.0) v.0.1 b''.0.1 p.0.1 front_is third.0 point.0 in
     let line_is : line ≡ entry_line found = whole ∙ rw end.0 (append-nil _) in
     subst (Spells format criteria line) end.1 (line_is, (numbers.1.0, numbers.1.1, vectors.1.0, vectors.1.1, point.1))
@@ -217,7 +220,9 @@ commit_again criteria desk question side plus minus point m desk_form question_f
     let s = side_field.again side behind_side tt tt in
     let v = (vectors_field criteria m).again (plus, minus) behind_vectors (plus_form, minus_form) (refl, refl) in
     let p = (vector_field criteria m).again point [] point_form (tt, refl) in
-    ap (read_commit (increments criteria.levels)) (sym (append-nil (commit_line desk question side plus minus point)) ∙ sym (regroup8 (codes "commit ") (numbers_text desk question) (codes " ") (side_text side) (codes " ") (vectors_text plus minus) (codes " ") (vector_text point) [])) ∙ rw (n, s, v, p) refl
+    ap (read_commit (increments criteria.levels)) (sym (append-nil (commit_line desk question side plus minus point))
+    ∙ sym (regroup8 (codes "commit ") (numbers_text desk question) (codes " ") (side_text side) (codes " ") (vectors_text plus minus) (codes " ")
+    (vector_text point) [])) ∙ rw (n, s, v, p) refl
 
 close_takes : (format : Format) (criteria : Criteria) (line : List ℕ) (entry : Entry) → read_close line ≡ Some entry → Spells format criteria line entry
 unfolding read_close

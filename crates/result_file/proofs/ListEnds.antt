@@ -1,9 +1,6 @@
 -- Lists that grow at the end.
 use Rattle.std.proofs.Common.{◌≡◌, ◌⊎◌, List, [], ◌∷◌, ◌++◌, refl, sym, ap, ◌∙◌, inl, inr}
 
-cons_rest : {X : Type 0} (x y : X) (xs ys : List X) → x ∷ xs ≡ y ∷ ys → xs ≡ ys
-cons_rest x y xs ys same = cc
-
 snoc_not_empty : {X : Type 0} (xs : List X) (x : X) → xs ++ x ∷ [] ≡ [] → ⊥
 snoc_not_empty [] x same = cc
 snoc_not_empty (y ∷ xs) x same = cc
@@ -11,11 +8,11 @@ snoc_not_empty (y ∷ xs) x same = cc
 -- a list ends in one way
 pub snoc_once : {X : Type 0} (xs : List X) (x : X) (ys : List X) (y : X) → xs ++ x ∷ [] ≡ ys ++ y ∷ [] → (xs ≡ ys) × (x ≡ y)
 snoc_once [] x [] y same = (refl, cc)
-snoc_once [] x (b ∷ ys) y same = absurd (snoc_not_empty ys y (sym (cons_rest x b [] (ys ++ y ∷ []) same)))
-snoc_once (a ∷ xs) x [] y same = absurd (snoc_not_empty xs x (cons_rest a y (xs ++ x ∷ []) [] same))
+snoc_once [] x (b ∷ ys) y same = absurd (snoc_not_empty ys y (sym (ap (drop 1) same)))
+snoc_once (a ∷ xs) x [] y same = absurd (snoc_not_empty xs x (ap (drop 1) same))
 snoc_once {X} (a ∷ xs) x (b ∷ ys) y same =
     let heads : a ≡ b = cc in
-    let (fronts, lasts) = snoc_once xs x ys y (cons_rest a b (xs ++ x ∷ []) (ys ++ y ∷ []) same) in
+    let (fronts, lasts) = snoc_once xs x ys y (ap (drop 1) same) in
     (ap (λ (h : X). h ∷ xs) heads ∙ ap (λ (rest : List X). b ∷ rest) fronts, lasts)
 
 -- a list is empty, or has a last element

@@ -38,8 +38,8 @@ told_now : (text now : Option (List ℕ)) (front bytes : List ℕ) → text ≡ 
 told_now text None front bytes e is = absurd cc
 told_now text (Some rest) front bytes e is = (rest, refl, cc)
 
-one_line : (line : List ℕ) → HasNoLineEnd line → All HasNoLineEnd (line ∷ [])
-one_line line h = All-cons HasNoLineEnd line [] h (All-nil HasNoLineEnd)
+pub one_unbroken : (line : List ℕ) → HasNoLineEnd line → All HasNoLineEnd (line ∷ [])
+one_unbroken line h = All-cons HasNoLineEnd line [] h (All-nil HasNoLineEnd)
 
 -- a whole line that fails
 pub line_checked : (text before now : Option (List ℕ)) (number : ℕ) (progress : Progress) (new : LinesView) (part : Part)
@@ -59,7 +59,7 @@ line_checked text before now number progress new part h g short fails =
       next = inr (inr (record {
         line = new.line;
         after = u.0;
-        split = record { whole = u.2; unbroken = one_line new.line g.unbroken };
+        split = record { whole = u.2; unbroken = one_unbroken new.line g.unbroken };
         fits = short;
         fails = fails h.stage h.stands;
       }));
@@ -77,7 +77,7 @@ line_come text before now number progress next new h g goes =
     record {
       lines = h.lines ++ new.line ∷ [];
       stage = go.stage;
-      unbroken = All-append HasNoLineEnd h.lines (new.line ∷ []) h.unbroken (one_line new.line g.unbroken);
+      unbroken = All-append HasNoLineEnd h.lines (new.line ∷ []) h.unbroken (one_unbroken new.line g.unbroken);
       told = told ∙ sym (prepend_known-append (unlines h.lines) (new.line ++ line_end ∷ []) now) ∙ ap (λ (front : List ℕ). prepend_known front now) (sym whole);
       says = go.says;
       stands = go.stands;

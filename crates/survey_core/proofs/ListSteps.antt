@@ -57,6 +57,11 @@ pub All-Each : {X : Type 0} (P : X → Type 0) (xs : List X) → All P xs → Ea
 All-Each P [] hs = tt
 All-Each P (x ∷ xs) hs = (hs 0 x (omega arith), All-Each P xs (λ k d h. hs (suc k) d (omega arith)))
 
+pub Each-at : {X : Type 0} (P : X → Type 0) (xs : List X) (k : ℕ) (x : X) → Each P xs → slice_get xs k ≡ Some x → P x
+Each-at P [] k x each at = absurd (none-some x at)
+Each-at P (y ∷ xs) zero x each at = subst P (same_Some y x at) each.0
+Each-at P (y ∷ xs) (suc k) x each at = Each-at P xs k x each.1 at
+
 pub slice_get-take : {X : Type 0} (n : ℕ) (xs : List X) (k : ℕ) → k < n → slice_get (take n xs) k ≡ slice_get xs k
 slice_get-take zero xs k h = absurd (omega arith)
 slice_get-take (suc n) [] k h = refl

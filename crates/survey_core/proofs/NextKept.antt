@@ -33,7 +33,7 @@ use Rattle.survey_core.specs.Marked.{greatest_cited, Table, numbered, is_ranking
 use Rattle.survey_core.proofs.ListSteps.{Each, slice_get_inside, slice_get-push, take_whole, filtered_range, at_some}
 use Rattle.survey_core.proofs.StandingLemmas.{standing-push}
 use Rattle.survey_core.proofs.SoundLemmas.{IsSoundAt, IsSound, sound_history, committed-push, committed-issue, committed-withdraw}
-use Rattle.survey_core.proofs.TableLemmas.{count_set, count_less, one_if}
+use Rattle.survey_core.proofs.TableLemmas.{count_set, count_less, one_if, ranked_same, issued_same, ended_same}
 use Rattle.survey_core.proofs.KeptLemmas.{ranked_at, found_at, unended_at, place_at, or_either, or_left, or_right}
 use Rattle.survey_core.proofs.ReadLemmas.{map_some, mark_at, asks_at, issued_len}
 use Rattle.row_laws.proofs.ItemLemmas.{item_of, item_found, item_positive}
@@ -102,21 +102,6 @@ open_by : (ending : Ending) → is_open ending ≡ true → ending ≡ Open
 open_by Open h = refl
 open_by (Committed level) h = absurd (let both : false ≡ true = h in cc)
 open_by (Closed level) h = absurd (let both : false ≡ true = h in cc)
-
-ranked_same : (classes : List Mark) (k : ℕ) (ranking : Ranking) (mark : Mark) → slice_get classes k ≡ Some mark
-    → slice_set classes k (record { ranking = ranking; issued = mark.issued }) ≡ with_ranking classes k ranking
-ranked_same classes k ranking mark at =
-    ap (λ (o : Option Mark). slice_set classes k (record { ranking = ranking; issued = option_map_or (λ m. m.issued) o false })) (sym at)
-
-issued_same : (classes : List Mark) (k : ℕ) (mark : Mark) → slice_get classes k ≡ Some mark
-    → slice_set classes k (record { ranking = mark.ranking; issued = true }) ≡ with_issued classes k
-issued_same classes k mark at =
-    ap (λ (o : Option Mark). slice_set classes k (record { ranking = option_map_or (λ m. m.ranking) o Unranked; issued = true })) (sym at)
-
-ended_same : (questions : List Question) (k : ℕ) (ending : Ending) (question : Question) → slice_get questions k ≡ Some question
-    → slice_set questions k (record { place = question.place; ending = ending }) ≡ with_ending questions k ending
-ended_same questions k ending question at =
-    ap (λ (o : Option Question). slice_set questions k (record { place = option_map_or (λ q. q.place) o 0; ending = ending })) (sym at)
 
 module _ (listed : Listed) (history : List Event) (answers : AnswersWithRoom) (table : Table) (withdrawn room : ℕ)
     (kept : KeepsHistory listed history answers table withdrawn room) where

@@ -3,7 +3,6 @@ use Rattle.std.proofs.Common.{◌≡◌, ◌⊎◌, ℕ, zero, suc, ◌+◌, ◌
 use Rattle.std.specs.Option.{option_map_or}
 use Rattle.std.proofs.Math.Seq.{take-append_seam}
 use Rattle.std.proofs.lemmas.Bool.{eqb-true, eq-eqb, or_cases, or_left, or_right}
-use Rattle.std.proofs.lemmas.Int.{ints}
 use Rattle.std.proofs.lemmas.Option.{none-some, same_Some, get_or_from_slice_get, slice_get_within, slice_get_read}
 use Rattle.std.proofs.lemmas.List.Elements.{All-take}
 use Rattle.std.proofs.lemmas.List.Folds.{Any-from_list_any, list_any-from_Any}
@@ -13,6 +12,7 @@ use Rattle.criteria_model.specs.declared.pairs.Side.{Side}
 use Rattle.criteria_model.specs.declared.pairs.Side.TheVariants.{Left, Right, Equal}
 use Rattle.criteria_model.specs.Answers.{Ranks, Meets, IsSatisfiable, IsRanked, IsOpen, Opens, turned_side}
 use Rattle.criteria_model.proofs.GainLemmas.{replicas_rank_same_lem}
+use Rattle.criteria_model.proofs.RankLemmas.{ranks_once, opened_is_open}
 use Rattle.farkas_check.specs.Proof.{Proves}
 use Rattle.farkas_check.proofs.Ranking.{proved_is_ranked_lem}
 use Rattle.pair_enumeration.specs.declared.flips.Flip.{Flip}
@@ -64,11 +64,6 @@ eliminated_are_ranked_lem listed history before after worker place verdict combi
     subst (λ (l : List Answer). IsRanked levels l pair verdict) (append-nil answers)
     (proved_is_ranked_lem levels answers [] combination pair verdict proves)
 
-opened_open : (levels : List ℕ) (answers : List Answer) (pair : Pair) (plus minus : List ℤ) → Opens levels answers pair plus minus → IsOpen levels answers pair
-opened_open levels answers pair plus minus opens Left ranked = omega (arith, ints, ranked minus opens.minus_meets, opens.less)
-opened_open levels answers pair plus minus opens Right ranked = omega (arith, ints, ranked plus opens.plus_meets, opens.more)
-opened_open levels answers pair plus minus opens Equal ranked = omega (arith, ints, ranked plus opens.plus_meets, opens.more)
-
 pub issued_are_open_lem : IssuedAreOpen
 issued_are_open_lem listed history before after desk place plus minus pair legal whole class =
     let levels : List ℕ = listed.criteria.levels in
@@ -76,7 +71,7 @@ issued_are_open_lem listed history before after desk place plus minus pair legal
     let may : MayIssue listed before place plus minus = may_follow listed history before after (Issue desk place plus minus) legal whole in
     let opens : Opens levels answers pair plus minus =
     at_some (class_at listed.classes place) (λ pair. Opens levels answers pair plus minus) pair class may.opened in
-    (opens, opened_open levels answers pair plus minus opens)
+    (opens, opened_is_open levels answers pair plus minus opens)
 
 pub answered_are_open_lem : AnsweredAreOpen
 answered_are_open_lem listed history before after desk question side plus minus point pair legal whole class =
@@ -86,7 +81,7 @@ answered_are_open_lem listed history before after desk question side plus minus 
     may_follow listed history before after (Commit desk question side plus minus point) legal whole in
     let opens : Opens levels answers pair plus minus =
     at_some (class_of listed.classes (issued before) question) (λ pair. Opens levels answers pair plus minus) pair class may.opened in
-    (opens, opened_open levels answers pair plus minus opens)
+    (opens, opened_is_open levels answers pair plus minus opens)
 
 -- ---- a class is ranked by an event exactly where it has a ranking
 eliminates_gives : (asked : List ℕ) (place : ℕ) (event : Event) → eliminates place event ≡ true → (side : Side) × GivesSide asked place event side
@@ -194,18 +189,6 @@ pub rankings_are_by_answers_lem : RankingsAreByAnswers
 rankings_are_by_answers_lem listed history place side pair legal ranking class =
     let here : RankedAt listed (issued history) (committed listed.classes history) place side = ranking_ranks listed history place side legal ranking in
     subst (λ (p : Pair). IsRanked listed.criteria.levels (committed listed.classes history) p side) (same_Some here.0 pair (sym here.1 ∙ class)) here.2
-
--- values rank a pair in one way
-pub ranks_once : (levels : List ℕ) (values : List ℤ) (pair : Pair) (one other : Side) → Ranks levels values pair one → Ranks levels values pair other → one ≡ other
-ranks_once levels values pair Left Left h k = refl
-ranks_once levels values pair Left Right h k = absurd (omega (arith, ints, h, k))
-ranks_once levels values pair Left Equal h k = absurd (omega (arith, ints, h, k))
-ranks_once levels values pair Right Left h k = absurd (omega (arith, ints, h, k))
-ranks_once levels values pair Right Right h k = refl
-ranks_once levels values pair Right Equal h k = absurd (omega (arith, ints, h, k))
-ranks_once levels values pair Equal Left h k = absurd (omega (arith, ints, h, k))
-ranks_once levels values pair Equal Right h k = absurd (omega (arith, ints, h, k))
-ranks_once levels values pair Equal Equal h k = refl
 
 pub each_has_one_ranking_lem : EachHasOneRanking
 each_has_one_ranking_lem listed history place one other model legal first second =

@@ -1,5 +1,6 @@
--- Lists of marks, as they are written.
-use Rattle.std.proofs.Common.{◌≡◌, ◌≢◌, ◌⊎◌, ℕ, zero, suc, ◌+◌, ◌-◌, ◌<◌, ◌≤◌, Bool, true, false, cond, ◌||◌, IsTrue, IsFalse, List, [], ◌∷◌, ◌++◌, length, take, drop, map, get_or, slice_set, slice_get, replicate, Some, length-append, refl, ap, sym, subst, ◌∙◌, inl, inr, arith, add-one}
+-- Tables of marks, and marks that are written.
+use Rattle.std.proofs.Common.{◌≡◌, ◌≢◌, ◌⊎◌, ℕ, zero, suc, ◌+◌, ◌-◌, ◌<◌, ◌≤◌, Bool, true, false, cond, ◌||◌, IsTrue, IsFalse, List, [], ◌∷◌, ◌++◌, length, slice_set, slice_get, replicate, Option, Some, length-append, refl, ap, sym, subst, ◌∙◌, inl, inr, arith}
+use Rattle.std.specs.Option.{option_map_or}
 use Rattle.std.proofs.lemmas.Option.{none-some, same_Some, get_or_from_slice_get, slice_get_within}
 use Rattle.std.proofs.lemmas.Bool.{cases_lt}
 use Rattle.std.proofs.lemmas.List.{length-set, length-replicate}
@@ -12,35 +13,8 @@ use Rattle.survey_core.specs.declared.marks.Ending.TheVariants.{Open, Closed}
 use Rattle.survey_core.specs.declared.marks.Mark.{Mark}
 use Rattle.survey_core.specs.declared.marks.Question.{Question}
 use Rattle.survey_core.proofs.ListSteps.{slice_get_inside}
-use Rattle.survey_core.specs.Marked.{IsTable, AreSettled, is_ranking, is_settled, is_open, is_ranked_mark, is_open_mark, unmarked}
+use Rattle.survey_core.specs.Marked.{IsTable, AreSettled, is_ranking, is_settled, is_open, is_ranked_mark, is_open_mark, unmarked, with_ranking, with_issued, with_ending}
 use Rattle.std.proofs.lemmas.List.Sums.{sum_by-set, sum_by-cons, sum_by-append, count_by-le-length}
-
--- a list whose first elements are already rewritten
-pub mapped_at : {X : Type 0} (f : X → X) (xs : List X) (i : ℕ) (d : X) → get_or (map f (take i xs) ++ drop i xs) i d ≡ get_or xs i d
-mapped_at f [] zero d = refl
-mapped_at f [] (suc i) d = refl
-mapped_at f (x ∷ xs) zero d = refl
-mapped_at f (x ∷ xs) (suc i) d = mapped_at f xs i d
-
-pub mapped_step : {X : Type 0} (f : X → X) (xs : List X) (i : ℕ) (d : X) → i < length xs
-    → slice_set (map f (take i xs) ++ drop i xs) i (f (get_or xs i d)) ≡ map f (take (suc i) xs) ++ drop (suc i) xs
-mapped_step f [] i d h = absurd (omega arith)
-mapped_step f (x ∷ xs) zero d h = refl
-mapped_step f (x ∷ xs) (suc i) d h = ap (λ rest. f x ∷ rest) (mapped_step f xs i d (omega arith))
-
-pub mapped_all : {X : Type 0} (f : X → X) (xs : List X) (i : ℕ) → length xs ≤ i → map f (take i xs) ++ drop i xs ≡ map f xs
-mapped_all f [] zero h = refl
-mapped_all f [] (suc i) h = refl
-mapped_all f (x ∷ xs) zero h = absurd (omega arith)
-mapped_all f (x ∷ xs) (suc i) h = ap (λ rest. f x ∷ rest) (mapped_all f xs i (omega arith))
-
--- one more element is rewritten
-pub mapped_more : {X : Type 0} (f : X → X) (xs ys : List X) (i : ℕ) (d y : X) → ys ≡ map f (take i xs) ++ drop i xs → i < length xs
-    → y ≡ f (get_or ys i d) → slice_set ys i y ≡ map f (take (i + 1) xs) ++ drop (i + 1) xs
-mapped_more f xs ys i d y before within new =
-    ap (λ l. slice_set l i y) before
-    ∙ ap (λ z. slice_set (map f (take i xs) ++ drop i xs) i z) (new ∙ ap (λ l. f (get_or l i d)) before ∙ ap f (mapped_at f xs i d))
-    ∙ mapped_step f xs i d within ∙ ap (λ k. map f (take k xs) ++ drop k xs) (sym (add-one i))
 
 -- ---- one element is written
 pub set_cases : {X : Type 0} (xs : List X) (i : ℕ) (y : X) (k : ℕ) (x : X) → slice_get (slice_set xs i y) k ≡ Some x
@@ -77,6 +51,22 @@ pub count_none : {X : Type 0} (p : X → Bool) (n : ℕ) (x : X) → p x ≡ fal
 count_none p zero x fails = refl
 count_none p (suc n) x fails =
     omega (arith, sum_by-cons (λ y. cond (p y) 1 0) x (replicate n x), count_none p n x fails, ap one_if fails)
+
+-- ---- a mark that is written
+pub ranked_same : (classes : List Mark) (k : ℕ) (ranking : Ranking) (mark : Mark) → slice_get classes k ≡ Some mark
+    → slice_set classes k (record { ranking = ranking; issued = mark.issued }) ≡ with_ranking classes k ranking
+ranked_same classes k ranking mark at =
+    ap (λ (o : Option Mark). slice_set classes k (record { ranking = ranking; issued = option_map_or (λ m. m.issued) o false })) (sym at)
+
+pub issued_same : (classes : List Mark) (k : ℕ) (mark : Mark) → slice_get classes k ≡ Some mark
+    → slice_set classes k (record { ranking = mark.ranking; issued = true }) ≡ with_issued classes k
+issued_same classes k mark at =
+    ap (λ (o : Option Mark). slice_set classes k (record { ranking = option_map_or (λ m. m.ranking) o Unranked; issued = true })) (sym at)
+
+pub ended_same : (questions : List Question) (k : ℕ) (ending : Ending) (question : Question) → slice_get questions k ≡ Some question
+    → slice_set questions k (record { place = question.place; ending = ending }) ≡ with_ending questions k ending
+ended_same questions k ending question at =
+    ap (λ (o : Option Question). slice_set questions k (record { place = option_map_or (λ q. q.place) o 0; ending = ending })) (sym at)
 
 -- ---- tables
 next_unmarked : (n : ℕ) (mark : Mark) → slice_get (replicate n unmarked) 0 ≡ Some mark → IsFalse (is_settled mark)

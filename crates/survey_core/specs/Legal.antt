@@ -128,7 +128,7 @@ close_parts history question =
 abbrev pub withdraw_parts : Listed → List Event → ℕ → List Part
 withdraw_parts listed history answer =
     part broken.Nothing (IsLastAnswer listed history answer)
-    ∷ part broken.Spent (most_events (length listed.classes) (withdrawals history + 1) ≤ MAX_EVENTS)
+    ∷ part broken.Spent (¬ IsSpent (length listed.classes) (withdrawals history))
     ∷ []
 
 -- what an event needs, by what stands before it

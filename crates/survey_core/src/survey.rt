@@ -433,6 +433,7 @@ impl Core {
 }
 
 /// The greatest number of a cited answer, which is that of the last cite; 0 where none is cited.
+#[tactic(auto, using(crate::proofs::CitedLemmas::greatest_last))]
 fn last_cited(cites: &Cites) -> u32
     ensures { result ≡ greatest_cited cites.now }
 {

@@ -12,7 +12,7 @@ use Rattle.pair_enumeration.specs.Listed.{Listed}
 use Rattle.survey_core.specs.declared.events.Event.{Event}
 use Rattle.survey_core.specs.declared.events.Event.TheVariants.{Eliminate, Issue, Commit, Close, Withdraw}
 use Rattle.survey_core.specs.Histories.{issued, place_of, is_eliminated}
-use Rattle.survey_core.proofs.ListSteps.{Each, Each-range, Each-append, Each-map, Each-All, All-Each, slice_get_inside, slice_get-take, some_and}
+use Rattle.survey_core.proofs.ListSteps.{Each, Each-at, Each-range, Each-append, Each-map, Each-All, All-Each, slice_get_inside, slice_get-take, some_and}
 use Rattle.survey_replies.specs.Requests.{Request}
 use Rattle.survey_replies.specs.Requests as request
 use Rattle.survey_replies.specs.declared.replies.NextReply.TheVariants.{Question}
@@ -55,11 +55,6 @@ each_desks desk history request.withdraw (outcome.withdraw (Withdrawn at answer 
 each_desks desk history _ _ events same = subst (Each IsDesks) (sym same) tt
 
 -- ---- lists
-pub each_at : {X : Type 0} (P : X → Type 0) (xs : List X) (k : ℕ) (x : X) → Each P xs → slice_get xs k ≡ Some x → P x
-each_at P [] k x each at = absurd (none-some x at)
-each_at P (y ∷ xs) zero x each at = subst P (same_Some y x at) each.0
-each_at P (y ∷ xs) (suc k) x each at = each_at P xs k x each.1 at
-
 slice_get-drop : (n k j : ℕ) (events : List Event) → j ≡ n + k → slice_get (drop n events) k ≡ slice_get events j
 slice_get-drop zero k j events same = ap (λ i. slice_get events i) (omega arith)
 slice_get-drop (suc n) k j [] same = refl
@@ -131,7 +126,7 @@ turn_desks listed desk before after asked reply journal place worker turns prefi
           slice_get-take (to - from) (drop from after.journal) (place - from) (omega (arith, within.0, within.1))
           ∙ slice_get-drop from (place - from) place after.journal (omega (arith, within.0)) ∙ found.1 in
           let desks : IsDesks found.0 =
-          each_at IsDesks (slice_range after.journal from to) (place - from) found.0
+          Each-at IsDesks (slice_range after.journal from to) (place - from) found.0
           (each_desks desk (read_by after.journal reply) asked reply (slice_range after.journal from to) turns.replied.appended) at in
           desks worker found.2)
     ]

@@ -2,6 +2,7 @@
 use Rattle.std.proofs.Common.{ℤ, ◌≡◌, ℕ, ◌+◌, ◌-◌, ◌≤◌, ◌==◌, nat_lt, Bool, true, false, cond, not, ◌||◌, List, [], ◌∷◌, ◌++◌, length, take, map, Option, Some, None, refl, ap, sym, ◌∙◌, arith, append-nil}
 use Rattle.std.specs.List.{filter, filter_map, list_any, range_with_len, cons_option}
 use Rattle.std.proofs.lemmas.List.Elements.{filter_map-append, filter_agree}
+use Rattle.std.proofs.lemmas.List.Sums.{sum_by_push}
 use Rattle.criteria_model.specs.declared.pairs.Pair.{Pair}
 use Rattle.criteria_model.specs.declared.pairs.Side.{Side}
 use Rattle.farkas_check.specs.declared.combination.Combination.{Combination}
@@ -109,42 +110,55 @@ of_commits (Withdraw desk answer ∷ later) = (refl, of_commits later)
 pub given_count : (history : List Event) → length (filter_map given_by (standing history)) ≡ commit_count (standing history)
 given_count history = length-filter_map given_by (standing history) (of_commits (standing history))
 
-module _ (history : List Event) where
-  given_push : (event : Event) → standing (history ++ event ∷ []) ≡ standing history ++ event ∷ []
-      → filter_map given_by (standing (history ++ event ∷ [])) ≡ filter_map given_by (standing history) ++ cons_option (given_by event) []
-  given_push event put = ap (λ (l : List Event). filter_map given_by l) put ∙ filter_map-append given_by (standing history) (event ∷ [])
+-- an event that is put at the end of the standing events
+module _ (history : List Event) (event : Event) (put : standing (history ++ event ∷ []) ≡ standing history ++ event ∷ []) where
+  given_push : filter_map given_by (standing (history ++ event ∷ [])) ≡ filter_map given_by (standing history) ++ cons_option (given_by event) []
+  given_push = ap (λ (l : List Event). filter_map given_by l) put ∙ filter_map-append given_by (standing history) (event ∷ [])
 
-  closed_push : (event : Event) → standing (history ++ event ∷ []) ≡ standing history ++ event ∷ []
-      → filter_map ended_at (resting (history ++ event ∷ []))
-      ≡ filter_map ended_at (resting history) ++ filter_map ended_at (numbered (0 + commit_count (standing history)) (event ∷ []))
-  closed_push event put =
+  closed_push : filter_map ended_at (resting (history ++ event ∷ []))
+      ≡ filter_map ended_at (resting history) ++ cons_option (ended_by (rests_on (0 + commit_count (standing history)) event) event) []
+  closed_push =
       ap (λ (l : List Event). filter_map ended_at (numbered 0 l)) put
       ∙ ap (λ (l : List Resting). filter_map ended_at l) (numbered-append 0 (standing history) (event ∷ []))
       ∙ filter_map-append ended_at (resting history) (numbered (0 + commit_count (standing history)) (event ∷ []))
 
+  given_same : given_by event ≡ None → filter_map given_by (standing (history ++ event ∷ [])) ≡ filter_map given_by (standing history)
+  given_same none =
+      given_push ∙ ap (λ (o : Option Given). filter_map given_by (standing history) ++ cons_option o []) none ∙ append-nil (filter_map given_by (standing history))
+
+  closed_same : ((level : ℕ) → ended_by level event ≡ None) → filter_map ended_at (resting (history ++ event ∷ [])) ≡ filter_map ended_at (resting history)
+  closed_same none =
+      closed_push ∙ ap (λ (o : Option Ended). filter_map ended_at (resting history) ++ cons_option o []) (none (rests_on (0 + commit_count (standing history)) event))
+      ∙ append-nil (filter_map ended_at (resting history))
+
+withdrawals_same : (history : List Event) (event : Event) → is_withdraw event ≡ false → withdrawals (history ++ event ∷ []) ≡ withdrawals history
+withdrawals_same history event none =
+    sum_by_push (λ e. cond (is_withdraw e) 1 0) history event ∙ ap (λ (b : Bool). withdrawals history + cond b 1 0) none ∙ omega arith
+
+module _ (history : List Event) where
   pub push_eliminate : (worker place : ℕ) (verdict : Side) (combination : Combination)
       → plain_of (history ++ Eliminate worker place verdict combination ∷ []) ≡ plain_of history
   push_eliminate worker place verdict combination =
       let event : Event = Eliminate worker place verdict combination in
       let put : standing (history ++ event ∷ []) ≡ standing history ++ event ∷ [] = standing-push history event in
-      let given : filter_map given_by (standing (history ++ event ∷ [])) ≡ filter_map given_by (standing history) =
-      given_push event put ∙ append-nil (filter_map given_by (standing history)) in
-      let closed : filter_map ended_at (resting (history ++ event ∷ [])) ≡ filter_map ended_at (resting history) =
-      closed_push event put ∙ append-nil (filter_map ended_at (resting history)) in
-      let count : withdrawals (history ++ event ∷ []) ≡ withdrawals history = omega (arith, count_by-append is_withdraw history (event ∷ [])) in
-      λ i. record { asked = issued-same history event refl i; given = given i; closed = closed i; withdrawals = count i }
+      λ i. record {
+        asked = issued-same history event refl i;
+        given = given_same history event put refl i;
+        closed = closed_same history event put (λ level. refl) i;
+        withdrawals = withdrawals_same history event refl i;
+      }
 
   pub push_issue : (desk place : ℕ) (plus minus : List ℤ)
       → plain_of (history ++ Issue desk place plus minus ∷ []) ≡ record (plain_of history) { asked = issued history ++ place ∷ [] }
   push_issue desk place plus minus =
       let event : Event = Issue desk place plus minus in
       let put : standing (history ++ event ∷ []) ≡ standing history ++ event ∷ [] = standing-push history event in
-      let given : filter_map given_by (standing (history ++ event ∷ [])) ≡ filter_map given_by (standing history) =
-      given_push event put ∙ append-nil (filter_map given_by (standing history)) in
-      let closed : filter_map ended_at (resting (history ++ event ∷ [])) ≡ filter_map ended_at (resting history) =
-      closed_push event put ∙ append-nil (filter_map ended_at (resting history)) in
-      let count : withdrawals (history ++ event ∷ []) ≡ withdrawals history = omega (arith, count_by-append is_withdraw history (event ∷ [])) in
-      λ i. record { asked = issued-push history event i; given = given i; closed = closed i; withdrawals = count i }
+      λ i. record {
+        asked = issued-push history event i;
+        given = given_same history event put refl i;
+        closed = closed_same history event put (λ level. refl) i;
+        withdrawals = withdrawals_same history event refl i;
+      }
 
   pub push_commit : (desk question : ℕ) (side : Side) (plus minus point : List ℤ)
       → plain_of (history ++ Commit desk question side plus minus point ∷ [])
@@ -152,10 +166,12 @@ module _ (history : List Event) where
   push_commit desk question side plus minus point =
       let event : Event = Commit desk question side plus minus point in
       let put : standing (history ++ event ∷ []) ≡ standing history ++ event ∷ [] = standing-push history event in
-      let closed : filter_map ended_at (resting (history ++ event ∷ [])) ≡ filter_map ended_at (resting history) =
-      closed_push event put ∙ append-nil (filter_map ended_at (resting history)) in
-      let count : withdrawals (history ++ event ∷ []) ≡ withdrawals history = omega (arith, count_by-append is_withdraw history (event ∷ [])) in
-      λ i. record { asked = issued-same history event refl i; given = given_push event put i; closed = closed i; withdrawals = count i }
+      λ i. record {
+        asked = issued-same history event refl i;
+        given = given_push history event put i;
+        closed = closed_same history event put (λ level. refl) i;
+        withdrawals = withdrawals_same history event refl i;
+      }
 
   pub push_close : (desk question : ℕ)
       → plain_of (history ++ Close desk question ∷ [])
@@ -163,14 +179,16 @@ module _ (history : List Event) where
   push_close desk question =
       let event : Event = Close desk question in
       let put : standing (history ++ event ∷ []) ≡ standing history ++ event ∷ [] = standing-push history event in
-      let given : filter_map given_by (standing (history ++ event ∷ [])) ≡ filter_map given_by (standing history) =
-      given_push event put ∙ append-nil (filter_map given_by (standing history)) in
       let level : 0 + commit_count (standing history) ≡ length (filter_map given_by (standing history)) = omega (arith, given_count history) in
       let closed : filter_map ended_at (resting (history ++ event ∷ []))
       ≡ filter_map ended_at (resting history) ++ record { question = question; answers = length (filter_map given_by (standing history)) } ∷ [] =
-      closed_push event put ∙ ap (λ (n : ℕ). filter_map ended_at (resting history) ++ record { question = question; answers = n } ∷ []) level in
-      let count : withdrawals (history ++ event ∷ []) ≡ withdrawals history = omega (arith, count_by-append is_withdraw history (event ∷ [])) in
-      λ i. record { asked = issued-same history event refl i; given = given i; closed = closed i; withdrawals = count i }
+      closed_push history event put ∙ ap (λ (n : ℕ). filter_map ended_at (resting history) ++ record { question = question; answers = n } ∷ []) level in
+      λ i. record {
+        asked = issued-same history event refl i;
+        given = given_same history event put refl i;
+        closed = closed i;
+        withdrawals = withdrawals_same history event refl i;
+      }
 
 either_way : (e : Resting) (rest : List Resting) (b : Bool) → ended_at e ≡ None → filter_map ended_at (cond b (e ∷ rest) rest) ≡ filter_map ended_at rest
 either_way e rest true none = rw none refl

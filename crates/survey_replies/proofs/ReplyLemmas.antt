@@ -7,7 +7,8 @@ use Rattle.criteria_model.specs.declared.pairs.Side.{Side}
 use Rattle.criteria_model.specs.Answers.{IsSatisfiable, IsRanked, IsOpen}
 use Rattle.pair_enumeration.specs.Listed.{Listed}
 use Rattle.survey_core.specs.Histories.{class_at, class_of}
-use Rattle.survey_core.proofs.RankingLemmas.{ranks_once, answers_are_satisfiable_lem}
+use Rattle.criteria_model.proofs.RankLemmas.{ranks_once}
+use Rattle.survey_core.proofs.RankingLemmas.{answers_are_satisfiable_lem}
 use Rattle.survey_replies.specs.Requests as request
 use Rattle.survey_replies.specs.declared.replies.NextReply.{NextReply}
 use Rattle.survey_replies.specs.declared.replies.NextReply.TheVariants.{Question, Full, Waiting, Complete}

@@ -17,7 +17,8 @@ with_front_one x None = refl
 with_front_one x (Some found) = refl
 
 -- the first item
-pub first_item : {X : Type 0} (item : List ℕ → Option (X × List ℕ)) (n : ℕ) (text : List ℕ) (x : X) (rest : List ℕ) → 0 < n → item text ≡ Some (x, rest) → with_front (x ∷ []) (read_more item (n - 1) rest) ≡ read_list item n text
+pub first_item : {X : Type 0} (item : List ℕ → Option (X × List ℕ)) (n : ℕ) (text : List ℕ) (x : X) (rest : List ℕ) → 0 < n
+    → item text ≡ Some (x, rest) → with_front (x ∷ []) (read_more item (n - 1) rest) ≡ read_list item n text
 unfolding read_list
 first_item item zero text x rest lt e = absurd (omega arith)
 first_item item (suc n) text x rest lt e =
@@ -31,7 +32,9 @@ no_first_item item zero text e = refl
 no_first_item item (suc n) text e = rw e refl
 
 -- one item more, after a comma
-pub next_item : {X : Type 0} (item : List ℕ → Option (X × List ℕ)) (n : ℕ) (text : List ℕ) (front : List X) (whole : Option (List X × List ℕ)) (x : X) (rest : List ℕ) → 0 < n → is_next 0x2C text ≡ true → item (drop 1 text) ≡ Some (x, rest) → with_front front (read_more item n text) ≡ whole → with_front (front ++ x ∷ []) (read_more item (n - 1) rest) ≡ whole
+pub next_item : {X : Type 0} (item : List ℕ → Option (X × List ℕ)) (n : ℕ) (text : List ℕ) (front : List X) (whole : Option (List X × List ℕ)) (x : X) (rest : List ℕ)
+    → 0 < n → is_next 0x2C text ≡ true → item (drop 1 text) ≡ Some (x, rest) → with_front front (read_more item n text) ≡ whole
+    → with_front (front ++ x ∷ []) (read_more item (n - 1) rest) ≡ whole
 unfolding read_more
 next_item item zero text front whole x rest lt comma e same = absurd (omega arith)
 next_item item (suc n) text front whole x rest lt comma e same =
@@ -39,13 +42,15 @@ next_item item (suc n) text front whole x rest lt comma e same =
     rw p (with_front_push front x (read_more item n rest) ∙ rw (comma, e) at same)
 
 -- a comma with no item after it
-pub no_next_item : {X : Type 0} (item : List ℕ → Option (X × List ℕ)) (n : ℕ) (text : List ℕ) (front : List X) (whole : Option (List X × List ℕ)) → 0 < n → is_next 0x2C text ≡ true → item (drop 1 text) ≡ None → with_front front (read_more item n text) ≡ whole → whole ≡ None
+pub no_next_item : {X : Type 0} (item : List ℕ → Option (X × List ℕ)) (n : ℕ) (text : List ℕ) (front : List X) (whole : Option (List X × List ℕ))
+    → 0 < n → is_next 0x2C text ≡ true → item (drop 1 text) ≡ None → with_front front (read_more item n text) ≡ whole → whole ≡ None
 unfolding read_more
 no_next_item item zero text front whole lt comma e same = absurd (omega arith)
 no_next_item item (suc n) text front whole lt comma e same = sym (rw (comma, e) at same)
 
 -- no comma
-pub last_item : {X : Type 0} (item : List ℕ → Option (X × List ℕ)) (n : ℕ) (text : List ℕ) (front : List X) (whole : Option (List X × List ℕ)) → (0 < n → is_next 0x2C text ≡ false) → with_front front (read_more item n text) ≡ whole → whole ≡ Some (front, text)
+pub last_item : {X : Type 0} (item : List ℕ → Option (X × List ℕ)) (n : ℕ) (text : List ℕ) (front : List X) (whole : Option (List X × List ℕ))
+    → (0 < n → is_next 0x2C text ≡ false) → with_front front (read_more item n text) ≡ whole → whole ≡ Some (front, text)
 unfolding read_more
 last_item item zero text front whole h same = sym same ∙ rw append-nil refl
 last_item item (suc n) text front whole h same =
@@ -59,7 +64,8 @@ pub record IsFront {X : Type 0} (item : List ℕ → Option (X × List ℕ)) (to
   pub same : with_front (take count cells) (read_more item (total - count) text) ≡ read_list item total start
 
 -- the first item
-pub first_cell : {X : Type 0} (item : List ℕ → Option (X × List ℕ)) (cells : List X) (text : List ℕ) (x : X) (rest : List ℕ) → 0 < length cells → item text ≡ Some (x, rest) → IsFront item (length cells) text (set cells 0 x) 1 rest
+pub first_cell : {X : Type 0} (item : List ℕ → Option (X × List ℕ)) (cells : List X) (text : List ℕ) (x : X) (rest : List ℕ) → 0 < length cells
+    → item text ≡ Some (x, rest) → IsFront item (length cells) text (set cells 0 x) 1 rest
 first_cell item cells text x rest lt e =
     let front : take 1 (set cells 0 x) ≡ x ∷ [] = take-suc-set cells 0 x lt in
     record {
@@ -69,7 +75,9 @@ first_cell item cells text x rest lt e =
     }
 
 -- one item more
-pub next_cell : {X : Type 0} (item : List ℕ → Option (X × List ℕ)) (total : ℕ) (start : List ℕ) (cells : List X) (count : ℕ) (text : List ℕ) (x : X) (rest : List ℕ) → IsFront item total start cells count text → count < length cells → is_next 0x2C text ≡ true → item (drop 1 text) ≡ Some (x, rest) → IsFront item total start (set cells count x) (count + 1) rest
+pub next_cell : {X : Type 0} (item : List ℕ → Option (X × List ℕ)) (total : ℕ) (start : List ℕ) (cells : List X) (count : ℕ) (text : List ℕ) (x : X) (rest : List ℕ)
+    → IsFront item total start cells count text → count < length cells → is_next 0x2C text ≡ true → item (drop 1 text) ≡ Some (x, rest)
+    → IsFront item total start (set cells count x) (count + 1) rest
 next_cell item total start cells count text x rest h lt comma e =
     let front : take (count + 1) (set cells count x) ≡ take count cells ++ x ∷ [] = rw add-one (take-suc-set cells count x lt) in
     let fewer : total - (count + 1) ≡ total - count - 1 = omega arith in
@@ -80,11 +88,15 @@ next_cell item total start cells count text x rest h lt comma e =
     }
 
 -- a comma with no item after it
-pub no_next_cell : {X : Type 0} (item : List ℕ → Option (X × List ℕ)) (total : ℕ) (start : List ℕ) (cells : List X) (count : ℕ) (text : List ℕ) → IsFront item total start cells count text → count < length cells → is_next 0x2C text ≡ true → item (drop 1 text) ≡ None → read_list item total start ≡ None
+pub no_next_cell : {X : Type 0} (item : List ℕ → Option (X × List ℕ)) (total : ℕ) (start : List ℕ) (cells : List X) (count : ℕ) (text : List ℕ)
+    → IsFront item total start cells count text → count < length cells → is_next 0x2C text ≡ true → item (drop 1 text) ≡ None
+    → read_list item total start ≡ None
 no_next_cell item total start cells count text h lt comma none =
     no_next_item item (total - count) text (take count cells) (read_list item total start) (omega (arith, h.room)) comma none h.same
 
 -- no comma, or no cell for an item after it
-pub last_cell : {X : Type 0} (item : List ℕ → Option (X × List ℕ)) (total : ℕ) (start : List ℕ) (cells : List X) (count : ℕ) (text : List ℕ) → IsFront item total start cells count text → (count < length cells → is_next 0x2C text ≡ false) → read_list item total start ≡ Some (take count cells, text)
+pub last_cell : {X : Type 0} (item : List ℕ → Option (X × List ℕ)) (total : ℕ) (start : List ℕ) (cells : List X) (count : ℕ) (text : List ℕ)
+    → IsFront item total start cells count text → (count < length cells → is_next 0x2C text ≡ false)
+    → read_list item total start ≡ Some (take count cells, text)
 last_cell item total start cells count text h none =
     last_item item (total - count) text (take count cells) (read_list item total start) (λ lt. none (omega (arith, h.room))) h.same

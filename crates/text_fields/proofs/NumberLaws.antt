@@ -6,7 +6,8 @@ use Rattle.std.proofs.lemmas.Fmt.{decimal_digit, decimal_step_wide, decimal_by_s
 use Rattle.std.proofs.lemmas.Bool.{leb-true, le-leb, cases_eq}
 use Rattle.std.proofs.lemmas.Bool.Decides.{nat_tests}
 use Rattle.std.proofs.lemmas.Option.{cond_some}
-use Rattle.text_fields.specs.Spelling.{is_next, EndsNumber, certificate_limit, IsCertificate}
+use Rattle.text_fields.specs.declared.limits.TheConstants.{CERTIFICATE_BOUND}
+use Rattle.text_fields.specs.Spelling.{is_next, EndsNumber, IsCertificate}
 use Rattle.text_fields.specs.Reading.{◌>>=◌, digits_after, begins_number, read_number, read_certificate, negated}
 use Rattle.text_fields.specs.Laws.{IsField}
 use Rattle.text_fields.proofs.Numerals.{digits_after_le}
@@ -182,17 +183,17 @@ bind_some None f y e = absurd cc
 pub some_is : {A : Type 0} (x y : A) → Some x ≡ Some y → x ≡ y
 some_is x y e = cc
 
-starts_minus : (text : List ℕ) → is_next 45 text ≡ true → text ≡ 45 ∷ drop 1 text
+pub starts_minus : (text : List ℕ) → is_next 45 text ≡ true → text ≡ 45 ∷ drop 1 text
 starts_minus [] e = absurd cc
 starts_minus (b ∷ text) e = let same : b ≡ 45 = grind (arith, nat_tests) in ap (λ (x : ℕ). x ∷ text) same
 
-wide_certificate : certificate_limit - 1 < 10 ^ 64
+wide_certificate : CERTIFICATE_BOUND - 1 < 10 ^ 64
 wide_certificate = lit< tt
 
 IsCertificateAt : List ℕ → ℤ × List ℕ → Type 0
 IsCertificateAt text found = (text ≡ signed_decimal found.0 ++ found.1) × IsCertificate found.0
 
-negative_takes : (text : List ℕ) (found : ℕ × List ℕ) (z : ℤ × List ℕ) → text ≡ decimal found.0 ++ found.1 → found.0 ≤ certificate_limit - 1 → negated found ≡ Some z → IsCertificateAt (45 ∷ text) z
+negative_takes : (text : List ℕ) (found : ℕ × List ℕ) (z : ℤ × List ℕ) → text ≡ decimal found.0 ++ found.1 → found.0 ≤ CERTIFICATE_BOUND - 1 → negated found ≡ Some z → IsCertificateAt (45 ∷ text) z
 unfolding IsCertificateAt
 negative_takes text (zero, left) z e le n = absurd cc
 negative_takes text (suc k, left) z e le n =
@@ -201,14 +202,14 @@ negative_takes text (suc k, left) z e le n =
 certificate_is : (text : List ℕ) (z : ℤ × List ℕ) → read_certificate text ≡ Some z → IsCertificateAt text z
 unfolding read_certificate IsCertificateAt
 certificate_is text z e =
-    elim (is_next 45 text) as (λ v. is_next 45 text ≡ v → cond v (read_number (certificate_limit - 1) (drop 1 text) >>= negated) (read_number (certificate_limit - 1) text >>= λ found. Some (pos found.0, found.1)) ≡ Some z → IsCertificateAt text z) [
+    elim (is_next 45 text) as (λ v. is_next 45 text ≡ v → cond v (read_number (CERTIFICATE_BOUND - 1) (drop 1 text) >>= negated) (read_number (CERTIFICATE_BOUND - 1) text >>= λ found. Some (pos found.0, found.1)) ≡ Some z → IsCertificateAt text z) [
       | true ↦ λ minus e'.
-          let b = bind_some (read_number (certificate_limit - 1) (drop 1 text)) negated z e' in
-          let t = number_takes (certificate_limit - 1) (drop 1 text) b.0.0 b.0.1 wide_certificate b.1 in
+          let b = bind_some (read_number (CERTIFICATE_BOUND - 1) (drop 1 text)) negated z e' in
+          let t = number_takes (CERTIFICATE_BOUND - 1) (drop 1 text) b.0.0 b.0.1 wide_certificate b.1 in
           rw (starts_minus text minus) (negative_takes (drop 1 text) b.0 z t.0 t.1 b.2)
       | false ↦ λ _ e'.
-          let b = bind_some (read_number (certificate_limit - 1) text) (λ found. Some (pos found.0, found.1)) z e' in
-          let t = number_takes (certificate_limit - 1) text b.0.0 b.0.1 wide_certificate b.1 in
+          let b = bind_some (read_number (CERTIFICATE_BOUND - 1) text) (λ found. Some (pos found.0, found.1)) z e' in
+          let t = number_takes (CERTIFICATE_BOUND - 1) text b.0.0 b.0.1 wide_certificate b.1 in
           subst (IsCertificateAt text) (some_is _ _ b.2) (t.0, omega (arith, t.1))
     ] refl e
 
@@ -219,9 +220,9 @@ certificate_again (pos n) rest h ends =
     let none : is_next 45 (lead.first ∷ (lead.others ++ rest)) ≡ false = let low = lead.least in grind (arith, nat_tests) in
     let same : decimal n ++ rest ≡ lead.first ∷ (lead.others ++ rest) = rw lead.cells refl in
     let none' : is_next 45 (decimal n ++ rest) ≡ false = rw same none in
-    rw (none', number_again (certificate_limit - 1) n rest wide_certificate (omega arith) ends) refl
+    rw (none', number_again (CERTIFICATE_BOUND - 1) n rest wide_certificate (omega arith) ends) refl
 certificate_again (negsuc n) rest h ends =
-    rw (number_again (certificate_limit - 1) (suc n) rest wide_certificate (omega arith) ends) refl
+    rw (number_again (CERTIFICATE_BOUND - 1) (suc n) rest wide_certificate (omega arith) ends) refl
 
 pub certificates_field : IsField read_certificate signed_decimal IsCertificate EndsNumber
 unfolding IsCertificateAt

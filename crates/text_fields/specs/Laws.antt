@@ -1,7 +1,8 @@
 -- Laws of reading: what is read is spelled so, each byte of it, and what is spelled so is read.
 use Rattle.std.specs.Prelude.{◌≡◌, ℕ, ◌<◌, ◌≤◌, List, ◌++◌, Option, Some}
 use Rattle.std.specs.Fmt.{decimal, signed_decimal}
-use Rattle.text_fields.specs.Spelling.{EndsNumber, EndsList, listed, certificate_limit, IsCertificate, IsList}
+use Rattle.text_fields.specs.declared.limits.TheConstants.{CERTIFICATE_BOUND}
+use Rattle.text_fields.specs.Spelling.{EndsNumber, EndsList, listed, IsCertificate, IsList}
 use Rattle.text_fields.specs.Reading.{read_word, read_number, read_certificate, read_list}
 
 -- What `item` reads is such a value and is spelled so. Such a value that is spelled at the front is read, where it ends there.
@@ -15,7 +16,7 @@ WordIsField = (word : List ℕ) → IsField (read_word word) (λ _. word) (λ _.
 
 -- a number up to a limit is read where `{}` wrote it
 abbrev pub NumberIsField : Type 0
-NumberIsField = (most : ℕ) → most < certificate_limit → IsField (read_number most) decimal (λ n. n ≤ most) EndsNumber
+NumberIsField = (most : ℕ) → most < CERTIFICATE_BOUND → IsField (read_number most) decimal (λ n. n ≤ most) EndsNumber
 
 -- a certificate number is read where `{}` wrote it
 abbrev pub CertificateIsField : Type 0
@@ -23,7 +24,7 @@ CertificateIsField = IsField read_certificate signed_decimal IsCertificate EndsN
 
 -- a list of numbers up to a limit is read where they are joined by commas
 abbrev pub NumbersAreField : Type 0
-NumbersAreField = (most room : ℕ) → most < certificate_limit → IsField (read_list (read_number most) room) (listed decimal) (IsList (λ n. n ≤ most) room) EndsList
+NumbersAreField = (most room : ℕ) → most < CERTIFICATE_BOUND → IsField (read_list (read_number most) room) (listed decimal) (IsList (λ n. n ≤ most) room) EndsList
 
 -- a list of certificate numbers is read where they are joined by commas
 abbrev pub CertificatesAreField : Type 0

@@ -2,7 +2,8 @@
 use Rattle.std.specs.Prelude.{◌≡◌, ℕ, zero, suc, ◌+◌, ◌-◌, ◌*◌, ◌≤◌, ◌==◌, nat_le, nat_eq, not, ◌&&◌, Bool, false, List, [], ◌∷◌, length, take, drop, Option, Some, None, if◌then◌else◌, ℤ, pos, negsuc}
 use Rattle.std.specs.Char.{is_ascii_digit}
 use Rattle.std.specs.List.{starts_with}
-use Rattle.text_fields.specs.Spelling.{is_next, certificate_limit}
+use Rattle.text_fields.specs.declared.limits.TheConstants.{CERTIFICATE_BOUND}
+use Rattle.text_fields.specs.Spelling.{is_next}
 
 -- a step that may find nothing, and the next on what it found
 infixl 10 ◌>>=◌
@@ -49,8 +50,8 @@ negated (suc n, text) = Some (negsuc n, text)
 unfoldable pub read_certificate : List ℕ → Option (ℤ × List ℕ)
 read_certificate text =
     if is_next 45 text
-    then read_number (certificate_limit - 1) (drop 1 text) >>= negated
-    else (read_number (certificate_limit - 1) text >>= λ found. Some (pos found.0, found.1))
+    then read_number (CERTIFICATE_BOUND - 1) (drop 1 text) >>= negated
+    else (read_number (CERTIFICATE_BOUND - 1) text >>= λ found. Some (pos found.0, found.1))
 
 -- up to `room` further items, each after a comma
 unfoldable pub read_more : {X : Type 0} → (List ℕ → Option (X × List ℕ)) → ℕ → List ℕ → Option (List X × List ℕ)

@@ -1,7 +1,8 @@
 -- How fields are written: numbers as std's `{}` writes them, and lists of them joined by commas.
-use Rattle.std.specs.Prelude.{◌≡◌, ℕ, ◌<◌, ◌≤◌, ◌^◌, ◌==◌, Bool, false, List, [], ◌∷◌, ◌++◌, length, ℤ, unsigned_abs}
+use Rattle.std.specs.Prelude.{◌≡◌, ℕ, ◌<◌, ◌≤◌, ◌==◌, Bool, false, List, [], ◌∷◌, ◌++◌, length, ℤ, unsigned_abs}
 use Rattle.std.specs.List.{All, flat_map}
 use Rattle.std.specs.Char.{is_ascii_digit}
+use Rattle.text_fields.specs.declared.limits.TheConstants.{CERTIFICATE_BOUND}
 
 -- the text begins with this byte
 abbrev pub is_next : ℕ → List ℕ → Bool
@@ -22,13 +23,9 @@ abbrev pub listed : {X : Type 0} → (X → List ℕ) → List X → List ℕ
 listed spell [] = []
 listed spell (x ∷ xs) = spell x ++ flat_map (λ y. 0x2C ∷ spell y) xs
 
--- the limit of a certificate number's size
-abbrev pub certificate_limit : ℕ
-certificate_limit = 2 ^ 96
-
--- a certificate number is below 2^96 in size
+-- a certificate number is below the bound in size
 abbrev pub IsCertificate : ℤ → Type 0
-IsCertificate z = unsigned_abs z < certificate_limit
+IsCertificate z = unsigned_abs z < CERTIFICATE_BOUND
 
 -- at least one item and at most `room`, each of them such as P says
 pub record IsList {X : Type 0} (P : X → Type 0) (room : ℕ) (xs : List X) : Type 0 where

@@ -1,6 +1,8 @@
 //! The digits at the front of a text.
-ghost use Rattle.std.specs.Prelude.{◌≡◌, ◌+◌, ◌^◌, ◌<◌, ◌≤◌, None, Some, length, drop, MatchOption};
+ghost use Rattle.std.specs.Prelude.{◌≡◌, ◌+◌, ◌<◌, ◌≤◌, None, Some, length, drop, MatchOption};
 ghost use Rattle.text_fields.specs.Reading.{read_number, begins_number as begins_number_by};
+
+use crate::limits::CERTIFICATE_BOUND;
 
 /// Whether digits stand at the front, the first of them no 0 unless it is the only one.
 fn begins_number(text: &[u8]) -> bool
@@ -16,7 +18,7 @@ fn begins_number(text: &[u8]) -> bool
 /// The number at the front of the text, up to `most`, and how many digits it takes.
 #[tactic(auto, unfolding(crate::specs::Reading::read_number))]
 pub(crate) fn digits_at(text: &[u8], most: u128) -> Option<(u128, usize)>
-    requires { most < 2 ^ 96 }
+    requires { most < CERTIFICATE_BOUND }
     ensures value { MatchOption result
         (read_number most text.now ≡ None)
         (λ found. read_number most text.now ≡ Some (found.0, drop found.1 text.now)) }

@@ -1,12 +1,10 @@
-ghost use Rattle.std.specs.Prelude.{◌≡◌, ◌↔◌, ℕ, ◌-◌, ◌^◌, ◌<◌, ◌≤◌, List, [], ◌++◌, length, drop, Option, IsTrue, IfNone, IfSome, if◌then◌else◌};
+ghost use Rattle.std.specs.Prelude.{◌≡◌, ◌↔◌, ℕ, ◌-◌, ◌<◌, ◌≤◌, List, [], ◌++◌, length, drop, Option, IsTrue, IfNone, IfSome, if◌then◌else◌};
 ghost use Rattle.text_fields.specs.Spelling.{IsCertificate, is_next};
 ghost use Rattle.text_fields.specs.Reading.{ReadsAs, ReadsListAs, read_word, read_number, read_certificate, read_list};
 
 use crate::digits::digits_at;
+use crate::limits::CERTIFICATE_BOUND;
 use std::marker::Model;
-
-/// The limit of a certificate number's size.
-const CERTIFICATE_LIMIT: u128 = 1 << 96;
 
 /// Reads fields from the front of a text, one after the other.
 ///
@@ -65,7 +63,7 @@ impl<'a> Fields<'a> {
 
     /// Reads a number up to `most`.
     fn size(&mut self, most: u128) -> Option<u128>
-        requires { most < 2 ^ 96 }
+        requires { most < CERTIFICATE_BOUND }
         ensures exact { ReadsAs result self.new (read_number most self.old) }
         ensures limit { IfSome result (λ n. n ≤ most) }
     {
@@ -90,13 +88,13 @@ impl<'a> Fields<'a> {
         ensures limit { IfSome result IsCertificate }
     {
         if self.skip(b'-') {
-            let size = self.size(CERTIFICATE_LIMIT - 1)?;
+            let size = self.size(CERTIFICATE_BOUND - 1)?;
             if size == 0 {
                 return None;
             }
             return Some(-(size as i128));
         }
-        let size = self.size(CERTIFICATE_LIMIT - 1)?;
+        let size = self.size(CERTIFICATE_BOUND - 1)?;
         Some(size as i128)
     }
 

@@ -10,6 +10,7 @@
 mod digits;
 mod fields;
 pub mod laws;
+mod limits;
 
 pub use fields::Fields;
 

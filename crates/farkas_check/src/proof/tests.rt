@@ -21,6 +21,27 @@ fn pair_of(left: &[u8; 3], right: &[u8; 3]) -> Pair
     }
 }
 
+fn answer(pair: Pair, side: Side) -> Answer
+    ensures { result.pair ≡ pair }
+{
+    Answer { pair, side }
+}
+
+/// Weights on the first two answers.
+fn two_cites(first: i128, second: i128) -> Result<Cites, Fail> {
+    let cites = Cites::of(&[
+        Cite {
+            answer: 1,
+            weight: first,
+        },
+        Cite {
+            answer: 2,
+            weight: second,
+        },
+    ]);
+    Ok(cites.ok_or("no list of cites")?)
+}
+
 fn two_answers(alloc: Global, model: &Model, first: Answer, second: Answer) -> Result<Answers, Fail>
     requires first_fits { IsFit model.now.levels first.pair }
     requires second_fits { IsFit model.now.levels second.pair }
@@ -44,27 +65,14 @@ fn negative_weight(rt: HostRuntime) -> Result<(), Fail> {
     let answers = two_answers(
         rt.alloc(),
         &model,
-        Answer {
-            pair: first,
-            side: Side::Left,
-        },
-        Answer {
-            pair: second,
-            side: Side::Left,
-        },
+        answer(first, Side::Left),
+        answer(second, Side::Left),
     )?;
     for (weight, want) in [(-1, Some(Flaw::Weight)), (1, None), (2, Some(Flaw::Sum))] {
-        let cites = Cites::of(&[
-            Cite {
-                answer: 1,
-                weight: 1,
-            },
-            Cite { answer: 2, weight },
-        ]);
         let combination = Combination {
             scale: 1,
             increments: Vector::of(&[0, 0, 0]),
-            answers: cites.ok_or("no list of cites")?,
+            answers: two_cites(1, weight)?,
         };
         assert_eq!(rt;
             flaw(&model, &answers, &combination, &pair, Side::Left),
@@ -86,14 +94,8 @@ fn scale_sum_strict(rt: HostRuntime) -> Result<(), Fail> {
     let answers = two_answers(
         rt.alloc(),
         &model,
-        Answer {
-            pair: first,
-            side: Side::Equal,
-        },
-        Answer {
-            pair: second,
-            side: Side::Equal,
-        },
+        answer(first, Side::Equal),
+        answer(second, Side::Equal),
     )?;
     let cases = [
         (0, -1, Side::Left, Some(Flaw::Scale)),
@@ -103,20 +105,10 @@ fn scale_sum_strict(rt: HostRuntime) -> Result<(), Fail> {
         (1, 0, Side::Equal, None),
     ];
     for (scale, own, verdict, want) in cases {
-        let cites = Cites::of(&[
-            Cite {
-                answer: 1,
-                weight: -1,
-            },
-            Cite {
-                answer: 2,
-                weight: 1,
-            },
-        ]);
         let combination = Combination {
             scale,
             increments: Vector::of(&[own, 0, 0]),
-            answers: cites.ok_or("no list of cites")?,
+            answers: two_cites(-1, 1)?,
         };
         assert_eq!(rt; flaw(&model, &answers, &combination, &pair, verdict), want);
     }
@@ -134,30 +126,14 @@ fn widest_numbers_cancel(rt: HostRuntime) -> Result<(), Fail> {
     let answers = two_answers(
         rt.alloc(),
         &model,
-        Answer {
-            pair: first,
-            side: Side::Left,
-        },
-        Answer {
-            pair: first,
-            side: Side::Right,
-        },
+        answer(first, Side::Left),
+        answer(first, Side::Right),
     )?;
     for (own, want) in [(WIDEST, true), (WIDEST - 1, false)] {
-        let cites = Cites::of(&[
-            Cite {
-                answer: 1,
-                weight: WIDEST,
-            },
-            Cite {
-                answer: 2,
-                weight: WIDEST,
-            },
-        ]);
         let combination = Combination {
             scale: WIDEST,
             increments: Vector::of(&[own, 0, 0]),
-            answers: cites.ok_or("no list of cites")?,
+            answers: two_cites(WIDEST, WIDEST)?,
         };
         assert_eq!(rt;
             proves(&model, &answers, &combination, &pair, Side::Left),

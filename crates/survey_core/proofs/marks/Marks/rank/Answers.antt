@@ -1,32 +1,35 @@
-use Rattle.std.proofs.Common.{◌≡◌, ℕ, false, ◌-◌, ◌<◌, List, length, slice_get, slice_set, Some, Option, refl, ap, sym, ◌∙◌, arith}
-use Rattle.std.specs.Option.{option_map_or}
+use Rattle.std.proofs.Common.{◌≡◌, ◌-◌, List, length, slice_get, Some, refl, ap, sym, ◌∙◌, arith}
 use Rattle.std.specs.Vec.{vec_capacity}
 use Rattle.std.proofs.lemmas.Option.{slice_get_read}
 use Rattle.survey_core.specs.declared.marks.Mark.{Mark}
+use Rattle.survey_core.specs.declared.marks.Ranking.TheVariants.{Unranked}
 use Rattle.survey_core.specs.Marked.{Table, with_ranking}
-use Rattle.survey_core.proofs.TableLemmas.{ranked_table}
+use Rattle.survey_core.proofs.TableLemmas.{ranked_same, ranked_table}
 use Rattle.survey_core.proofs.marks.Marks.rank.Goals as goal
+use Rattle.survey_core.proofs.marks.Marks.rank.Goals.{After-index_mut-mark}
+
+-- ---- the class's mark, as it was
+module _ (c : After-index_mut-mark) where
+  same : c.self.inside.classes.items ≡ c.args.self.now.classes
+  same = ap (λ (t : Table). t.classes) c.self.view_is
+
+  marked : slice_get c.self.inside.classes.items (c.args.place - 1) ≡ Some c.index_mut-mark.result.now
+  marked =
+      slice_get_read c.self.inside.classes.items (length c.self.inside.classes.items) (c.args.place - 1) c.index_mut-mark.result.now refl
+      (omega (arith, ap (λ (l : List Mark). length l) same)) c.index_mut-mark.ensures.value
+
+  unranked : c.index_mut-mark.result.now.ranking ≡ Unranked
+  unranked = c.requires.before c.index_mut-mark.result.now (ap (λ (l : List Mark). slice_get l (c.args.place - 1)) (sym same) ∙ marked)
 
 pub invariant_of-self : goal.invariant_of-self
 invariant_of-self c =
-    let classes : List Mark = c.self.inside.classes.items in
-    let mark : Mark = c.index_mut-mark.result.now in
-    let same : classes ≡ c.args.self.now.classes = ap (λ (t : Table). t.classes) c.self.view_is in
-    let inside : c.args.place - 1 < length classes = omega (arith, ap (λ (l : List Mark). length l) same) in
-    let at : slice_get classes (c.args.place - 1) ≡ Some mark =
-    slice_get_read classes (length classes) (c.args.place - 1) mark refl inside c.index_mut-mark.ensures.value in
-    ranked_table classes c.self.inside.questions.items (vec_capacity c.self.inside.questions) c.self.inside.ranked c.self.inside.open_count c.self.inside.settled
-    c.self.invariant (c.args.place - 1) c.settled_from.result mark c.args.ranking at
-    (c.requires.before mark (ap (λ (l : List Mark). slice_get l (c.args.place - 1)) (sym same) ∙ at)) c.requires.after c.as_slice.result.now c.as_slice.ensures.value
-    c.settled_from.ensures.front c.settled_from.ensures.next c.settled_from.ensures.within
+    let at = (goal.at.invariant_of-self c).After-index_mut-mark in
+    ranked_table c.self.inside.classes.items c.self.inside.questions.items (vec_capacity c.self.inside.questions) c.self.inside.ranked c.self.inside.open_count c.self.inside.settled
+    c.self.invariant (c.args.place - 1) c.settled_from.result c.index_mut-mark.result.now c.args.ranking (marked at) (unranked at) c.requires.after
+    c.as_slice.result.now c.as_slice.ensures.value c.settled_from.ensures.front c.settled_from.ensures.next c.settled_from.ensures.within
 
 pub returns-clause-classes : goal.returns-clause-classes
 returns-clause-classes c =
-    let classes : List Mark = c.self.inside.classes.items in
-    let k : ℕ = c.args.place - 1 in
-    let mark : Mark = c.index_mut-mark.result.now in
-    let same : classes ≡ c.args.self.now.classes = ap (λ (t : Table). t.classes) c.self.view_is in
-    let inside : k < length classes = omega (arith, ap (λ (l : List Mark). length l) same) in
-    let at : slice_get classes k ≡ Some mark = slice_get_read classes (length classes) k mark refl inside c.index_mut-mark.ensures.value in
-    ap (λ (o : Option Mark). slice_set classes k (record { ranking = c.args.ranking; issued = option_map_or (λ m. m.issued) o false })) (sym at)
-    ∙ ap (λ (l : List Mark). with_ranking l k c.args.ranking) same
+    let at = (goal.at.returns-clause-classes c).After-index_mut-mark in
+    ranked_same c.self.inside.classes.items (c.args.place - 1) c.args.ranking c.index_mut-mark.result.now (marked at)
+    ∙ ap (λ (l : List Mark). with_ranking l (c.args.place - 1) c.args.ranking) (same at)
