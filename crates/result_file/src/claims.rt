@@ -1,5 +1,5 @@
 //! The claims of a file, one after the other.
-ghost use Rattle.std.specs.Prelude.{◌≡◌, ◌≢◌, ℕ, ◌+◌, ◌<◌, ◌≤◌, List, [], ◌∷◌, ◌++◌, length, OnOk, IfOk, IfErr, IfSome, None, All, unsigned_abs, ◌^◌};
+ghost use Rattle.std.specs.Prelude.{◌≡◌, ◌≢◌, ℕ, ◌+◌, ◌<◌, ◌≤◌, List, [], ◌∷◌, ◌++◌, length, OnOk, IfOk, IfErr, IfSome, None, All, unsigned_abs};
 ghost use Rattle.criteria_model.specs.Criteria.{Criteria, IsModel};
 ghost use Rattle.criteria_model.specs.Classes.{IsClass};
 ghost use Rattle.criteria_model.specs.Worth.{increments as increments_of};
@@ -16,7 +16,7 @@ use crate::line_fields::answer_of;
 use crate::stops::Stop;
 use crate::verdicts::Part;
 use answer_rows::{Answer, Answers};
-use criteria_model::{Model, Pair};
+use criteria_model::{CERTIFICATE_BOUND, Model, Pair};
 use farkas_check::flaw;
 use std::alloc::Global;
 use survey_core::{Broken, MAX_EVENTS};
@@ -107,7 +107,7 @@ impl Claims {
     /// Adds an elimination, or says what stops the check at it.
     fn add_elimination(&mut self, elimination: &Elimination) -> Result<(), Stop>
         requires len { length elimination.now.combination.increments ≡ increments_of self.old.model.levels }
-        requires scale { unsigned_abs elimination.now.combination.scale < 2 ^ 96 }
+        requires scale { unsigned_abs elimination.now.combination.scale < CERTIFICATE_BOUND }
         ensures added { OnOk result ((criteria : Criteria) (claims : List Claim) →
             KeepsClaims self.old criteria claims → AcceptsClaim self.new criteria claims (eliminated elimination.now)) }
         ensures failed { IfErr result (λ stop. (criteria : Criteria) (claims : List Claim) →
