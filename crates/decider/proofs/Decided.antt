@@ -1,5 +1,5 @@
 -- What a proof, or two vectors that open the pair, make a decision.
-use Rattle.std.proofs.Common.{◌≡◌, ◌^◌, ◌<◌, ℕ, List, ℤ, pos, unsigned_abs, refl, subst, arith}
+use Rattle.std.proofs.Common.{◌≡◌, ◌^◌, ◌<◌, ℕ, List, ℤ, pos, unsigned_abs, subst, arith}
 use Rattle.std.specs.Int.{◌∣◌}
 use Rattle.std.proofs.Math.Nat.{eq-one_of_dvd-one}
 use Rattle.criteria_model.specs.declared.pairs.Pair.{Pair}

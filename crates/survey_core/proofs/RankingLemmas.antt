@@ -1,5 +1,5 @@
 -- The ranking of each class of a legal history, and of every pair that the class stands for.
-use Rattle.std.proofs.Common.{◌≡◌, ◌⊎◌, ℕ, zero, suc, ◌+◌, ◌-◌, ◌≤◌, ◌==◌, true, false, List, [], ◌∷◌, ◌++◌, length, take, get_or, Option, Some, None, slice_get, ℤ, refl, ap, sym, subst, ◌∙◌, inl, inr, arith, append-nil}
+use Rattle.std.proofs.Common.{◌≡◌, ◌⊎◌, ℕ, zero, suc, ◌+◌, ◌-◌, ◌≤◌, ◌==◌, true, false, List, [], ◌∷◌, ◌++◌, length, take, get_or, Option, Some, None, slice_get, ℤ, refl, ap, sym, subst, ◌∙◌, inl, inr, append-nil}
 use Rattle.std.specs.Option.{option_map_or}
 use Rattle.std.proofs.Math.Seq.{take-append_seam}
 use Rattle.std.proofs.lemmas.Bool.{eqb-true, eq-eqb, or_cases, or_left, or_right}
@@ -10,7 +10,7 @@ use Rattle.criteria_model.specs.declared.pairs.Pair.{Pair}
 use Rattle.criteria_model.specs.declared.pairs.Answer.{Answer}
 use Rattle.criteria_model.specs.declared.pairs.Side.{Side}
 use Rattle.criteria_model.specs.declared.pairs.Side.TheVariants.{Left, Right, Equal}
-use Rattle.criteria_model.specs.Answers.{Ranks, Meets, IsSatisfiable, IsRanked, IsOpen, Opens, turned_side}
+use Rattle.criteria_model.specs.Answers.{Ranks, Meets, IsSatisfiable, IsRanked, Opens, turned_side}
 use Rattle.criteria_model.proofs.GainLemmas.{replicas_rank_same_lem}
 use Rattle.criteria_model.proofs.RankLemmas.{ranks_once, opened_is_open}
 use Rattle.farkas_check.specs.Proof.{Proves}

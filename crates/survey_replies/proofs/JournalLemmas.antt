@@ -5,7 +5,7 @@ use Rattle.std.specs.List.{flat_map}
 use mathlib.Core.List.{IsPrefix}
 use Rattle.std.proofs.lemmas.Bool.{cases_lt, eqb-true}
 use Rattle.std.proofs.lemmas.List.Sums.{sum_by-cons}
-use Rattle.std.proofs.lemmas.Option.{none-some, same_Some}
+use Rattle.std.proofs.lemmas.Option.{none-some}
 use Rattle.criteria_model.specs.declared.pairs.Side.{Side}
 use Rattle.farkas_check.specs.declared.combination.Combination.{Combination}
 use Rattle.pair_enumeration.specs.Listed.{Listed}
