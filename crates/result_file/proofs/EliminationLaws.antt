@@ -66,7 +66,6 @@ no_minus cite cites rest h =
     sym (regroup4 (decimal cite.answer) (codes ":") (signed_decimal cite.weight) others rest) in
     ap (is_next 45) e ∙ no_minus_in (decimal cite.answer) _ (decimal_nonempty cite.answer lt) (first_digit cite.answer lt)
 
-
 -- a list with a cite is written as one
 some_cites : (cites : List Cite) → 1 ≤ length cites → cites_text cites ≡ listed cite_text cites
 some_cites [] some = absurd (omega arith)
