@@ -1,3 +1,3 @@
-mod Places
-mod PoolLaws
-mod FirstLaws
+pub mod Places
+pub mod PoolLaws
+pub mod FirstLaws

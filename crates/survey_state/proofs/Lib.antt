@@ -1,2 +1,5 @@
 pub mod RoomLemmas
+pub mod RankedLemmas
+pub mod PoolLemmas
+pub mod PointLemmas
 pub mod JournalLemmas

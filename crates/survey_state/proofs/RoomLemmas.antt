@@ -1,5 +1,5 @@
 -- How many events may follow a legal history up to the next Withdraw: at most three a class.
-use Rattle.std.proofs.Common.{◌≡◌, ℕ, zero, suc, ◌+◌, ◌-◌, ◌*◌, ◌<◌, ◌≤◌, Bool, true, false, cond, List, [], ◌∷◌, ◌++◌, length, take, Option, Some, slice_get, ℤ, append_assoc, append-nil, length-append, length-take, refl, ap, sym, subst, ◌∙◌, arith}
+use Rattle.std.proofs.Common.{◌≡◌, ℕ, zero, suc, ◌+◌, ◌-◌, ◌*◌, ◌≤◌, Bool, true, false, cond, List, [], ◌∷◌, ◌++◌, length, take, Option, Some, slice_get, ℤ, append_assoc, length-append, length-take, refl, ap, sym, subst, ◌∙◌, arith}
 use Rattle.std.specs.List.{count_by}
 use Rattle.std.specs.Option.{option_map_or}
 use Rattle.std.proofs.lemmas.List.{length-set, take-append-le}
@@ -21,14 +21,13 @@ use Rattle.survey_core.specs.declared.marks.Question.{Question}
 use Rattle.survey_core.specs.declared.limits.TheConstants.{MAX_EVENTS}
 use Rattle.survey_core.specs.Kinds.{is_withdraw}
 use Rattle.survey_core.specs.Histories.{committed, withdrawals}
-use Rattle.survey_core.specs.Legal.{IsEvent, IsPlace, MayFollow, IsLegal, most_events}
+use Rattle.survey_core.specs.Legal.{IsEvent, IsPlace, MayFollow, IsLegal}
 use Rattle.survey_core.specs.Marked.{greatest_cited, Table, is_ranking, is_open, is_ranked_mark, is_open_mark, is_number_up_to, is_answer_up_to, with_ranking, with_issued, with_ending, KeepsHistory}
 use Rattle.survey_core.proofs.NamedParts.{MayEliminate, MayIssue, MayCommit, MayClose, MayWithdraw, HasParts, named}
-use Rattle.survey_core.proofs.ListSteps.{slice_get_inside, slice_get-last, take_next, take_whole}
+use Rattle.survey_core.proofs.ListSteps.{slice_get_inside, take_next, take_whole}
 use Rattle.survey_core.proofs.TableLemmas.{count_set, one_if}
 use Rattle.survey_core.proofs.KeptLemmas.{few_answers}
 use Rattle.survey_core.proofs.NewLemmas.{new_kept}
-use Rattle.survey_core.proofs.ShortLemmas.{legal_is_within_most_lem}
 use Rattle.survey_core.proofs.NextKept.{unranked_mark, open_mark, asked_within, question_found, asks_question, asked_class, asked_unranked, commit_room, kept_eliminate, kept_issue, kept_commit_at, kept_close, kept_withdraw}
 use Rattle.row_laws.proofs.ItemLemmas.{item_of, slice_get-append}
 use Rattle.survey_state.specs.States.{HasRoom}

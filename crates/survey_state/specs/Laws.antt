@@ -1,5 +1,5 @@
 -- What may follow a legal journal.
-use Rattle.std.specs.Prelude.{◌≡◌, ℕ, ◌*◌, ◌≤◌, List, ◌++◌, length}
+use Rattle.std.specs.Prelude.{◌≡◌, ◌*◌, ◌≤◌, List, ◌++◌, length}
 use Rattle.pair_enumeration.specs.Listed.{Listed, IsListed}
 use Rattle.survey_core.specs.declared.events.Event.{Event}
 use Rattle.survey_core.specs.Histories.{withdrawals}

@@ -1,8 +1,12 @@
 //! A survey's state: its journal, what the journal comes to, and memory for what may follow.
 //!
 //! `State` keeps a legal journal with the `Core` whose history it is. `offer` puts an event at the
-//! end where it may follow, and else names the first part that it lacks. The point of the last
-//! answer that stands and the number of changes of the answers are at hand.
+//! end where it may follow, and else names the first part that it lacks. At hand are the point of
+//! the last answer that stands, its question, and the number of changes of the answers.
+//!
+//! It keeps a `Pool` of the model's classes too, whose marks say what the journal ranks and asked:
+//! so `first_unranked`, `first_due` and `job` look at few classes. `keep_met` keeps two vectors that
+//! rank a class oppositely, with the number of answers that both meet; a withdrawal lowers it.
 //!
 //! Memory is taken by `State::new` and `make_room` only: there is always enough for all events that
 //! may follow up to the next withdrawal, which `make_room` prepares.
@@ -12,6 +16,8 @@ mod front;
 mod journal;
 pub mod laws;
 mod offer;
+mod points;
+mod pool;
 mod state;
 
 pub use offer::Offer;

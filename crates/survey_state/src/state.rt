@@ -1,20 +1,23 @@
 //! The state of a survey.
-ghost use Rattle.std.specs.Prelude.{◌≡◌, ◌≢◌, ◌+◌, ◌-◌, ◌*◌, ◌^◌, ◌<◌, ◌≤◌, [], ◌∷◌, ◌++◌, length, take, fold, replicate, pos, IsTrue, IfOk, OnOk, OnErr, vec_len, vec_capacity, if◌then◌else◌};
+ghost use Rattle.std.specs.Prelude.{◌≡◌, ◌≢◌, ◌+◌, ◌*◌, ◌≤◌, [], length, take, IsTrue, IsFalse, IfOk, IfSome, OnOk, OnErr, MatchOption, if◌then◌else◌};
 ghost use Rattle.pair_enumeration.specs.Listed.{IsListed};
-ghost use Rattle.criteria_model.specs.Worth.{increments};
 ghost use Rattle.criteria_model.specs.Answers.{MeetsAll};
 ghost use Rattle.answer_rows.specs.Room.{room_of};
+ghost use Rattle.question_queue.specs.Pools.{new_pool, first_place, is_job, kept_at};
 ghost use Rattle.survey_core.specs.Histories.{item_at, committed};
-ghost use Rattle.survey_core.specs.Kinds.{is_commit, is_withdraw};
-ghost use Rattle.survey_core.specs.Legal.{IsEvent, IsLegal, MayFollow};
-ghost use Rattle.survey_core.specs.Laws.{last_point};
-ghost use Rattle.survey_core.specs.Recorded.{Recorded};
-ghost use Rattle.survey_state.specs.States.{Surveyed, changes_answers as changes, version_of, room_for_withdrawal, IsOffered, IsSnapshotOf, points_after};
+ghost use Rattle.survey_core.specs.Kinds.{is_withdraw};
+ghost use Rattle.survey_core.specs.Legal.{IsEvent, IsPlace, IsUnranked, AreEarlierAsked, IsLegal, MayFollow};
+ghost use Rattle.survey_core.specs.Laws.{last_point, RanksEachClass};
+ghost use Rattle.survey_replies.specs.Interview.{answered};
+ghost use Rattle.survey_state.specs.States.{Surveyed, changes_answers as changes, version_of, room_for_withdrawal, IsOffered, IsAppended, IsSnapshotOf, IsFirstUnranked, IsFirstDue, RankOppositely, IsKept, with_pool, with_given, with_kept};
 
 use crate::front::common_front;
 use crate::offer::Offer;
-use criteria_model::{MAX_INCREMENTS, Model, Vector};
+use crate::points::{AnswerPoint, follow, last_question, latest};
+use crate::pool::mark;
+use criteria_model::{Model, Vector};
 use decider::Snapshot;
+use question_queue::{Kept, Pool};
 use std::alloc::{AllocError as NoMemory, Global};
 use survey_core::{Core, Event, MAX_EVENTS};
 
@@ -23,21 +26,22 @@ use survey_core::{Core, Event, MAX_EVENTS};
 pub struct State {
     core: Core,
     journal: Vec<Event>,
-    // The points of the commits that stand, in order.
-    points: Vec<Vector>,
+    // Those of the answers that stand, in order.
+    points: Vec<AnswerPoint>,
     version: u32,
+    pool: Pool,
 }
 
-// Clauses see the model with its classes, the journal, and for how many more events there is memory.
+// Clauses see the model with its classes, the journal, for how many more events there is memory, and the pool.
 impl std::marker::Model for State {
     ghost use Rattle.std.specs.Prelude.{◌-◌, vec_len, vec_capacity};
     ghost use Rattle.survey_state.specs.States.{Surveyed, KeepsJournal};
 
     ghost Value = { Surveyed };
 
-    ghost view = { λ s. record { listed = s.core.listed; journal = s.journal.items; spare = vec_capacity s.journal - vec_len s.journal } };
+    ghost view = { λ s. record { listed = s.core.listed; journal = s.journal.items; spare = vec_capacity s.journal - vec_len s.journal; pool = s.pool } };
 
-    ghost invariant = { λ s. KeepsJournal s.core s.journal.items s.points.items s.version (vec_capacity s.points) (vec_capacity s.journal - vec_len s.journal) };
+    ghost invariant = { λ s. KeepsJournal s.core s.journal.items s.points.items s.pool s.version (vec_capacity s.points) (vec_capacity s.journal - vec_len s.journal) };
 }
 
 impl State {
@@ -51,16 +55,20 @@ impl State {
         ensures listed { IfOk result (λ state. IsListed state.listed) }
         ensures empty { IfOk result (λ state. state.journal ≡ []) }
         ensures room { IfOk result (λ state. 3 * length state.listed.classes ≤ state.spare) }
+        ensures pool { IfOk result (λ state. state.pool ≡ new_pool (length state.listed.classes)) }
     {
         let core = Core::new(alloc, model)?;
-        let classes = model.class_count() as usize;
+        let count = model.class_count();
+        let classes = count as usize;
         let journal = Vec::with_capacity(alloc, 3 * classes)?;
         let points = Vec::with_capacity(alloc, classes)?;
+        let pool = Pool::new(alloc, count)?;
         Ok(State {
             core,
             journal,
             points,
             version: 0,
+            pool,
         })
     }
 
@@ -85,9 +93,10 @@ impl State {
         requires event { IsEvent self.old.listed.criteria.levels event }
         requires allowed { MayFollow self.old.listed self.old.journal event }
         requires room { IsTrue (is_withdraw event) → room_for_withdrawal self.old.listed ≤ self.old.spare }
-        ensures { self.new ≡ record { listed = self.old.listed; journal = self.old.journal ++ event ∷ []; spare = self.old.spare - 1 } }
+        ensures { IsAppended self.old self.new event }
     {
         self.core.apply(&event);
+        mark(&mut self.pool, &self.core, &event);
         self.version = version_after(self.version, &event);
         follow(&mut self.points, &event);
         self.journal.push_reserved(event);
@@ -128,6 +137,13 @@ impl State {
         latest(self.points.as_slice(), &self.core.model())
     }
 
+    /// The question of the last answer that stands.
+    pub fn last_question(&self) -> Option<u32>
+        ensures { result ≡ item_at (answered self.now.journal) (length (answered self.now.journal)) }
+    {
+        last_question(self.points.as_slice())
+    }
+
     /// How often the answers changed: the number of commits and withdrawals.
     pub fn version(&self) -> u32
         ensures { result ≡ version_of self.now.journal }
@@ -156,6 +172,58 @@ impl State {
         missing
     }
 
+    /// The first class that no event ranks.
+    pub fn first_unranked(&self) -> Option<u32>
+        ensures { MatchOption result (RanksEachClass self.now.listed self.now.journal) (λ place. IsFirstUnranked self.now.listed self.now.journal place) }
+    {
+        self.pool.first_unranked()
+    }
+
+    /// The first class that no event ranks and that was never asked.
+    pub fn first_due(&self) -> Option<u32>
+        ensures { MatchOption result (AreEarlierAsked self.now.journal (length self.now.listed.classes + 1)) (λ place. IsFirstDue self.now.listed self.now.journal place) }
+    {
+        self.pool.first_due()
+    }
+
+    /// Gives out the first class that no event ranks and that wasn't given out since the answers changed last.
+    pub fn job(&mut self) -> Option<u32>
+        ensures job { result ≡ first_place (is_job (version_of self.old.journal)) self.old.pool.marks }
+        ensures given { self.new ≡ with_pool self.old (with_given self.old.pool (version_of self.old.journal)) }
+        ensures open { IfSome result (λ place. IsPlace self.old.listed place × IsUnranked self.old.journal place) }
+    {
+        self.pool.next_job(self.version)
+    }
+
+    /// Keeps vectors of a class, of which no answers are known that they meet.
+    pub fn keep(&mut self, place: u32, plus: Vector, minus: Vector)
+        requires place { IsPlace self.old.listed place }
+        requires vectors { RankOppositely self.old.listed place plus minus }
+        ensures { self.new ≡ with_pool self.old (with_kept self.old.pool place (record { plus = plus; minus = minus; met = 0 })) }
+    {
+        self.keep_met(place, 0, plus, minus);
+    }
+
+    /// Keeps vectors of a class that meet the first `met` answers.
+    pub fn keep_met(&mut self, place: u32, met: u32, plus: Vector, minus: Vector)
+        requires place { IsPlace self.old.listed place }
+        requires vectors { IsKept self.old.listed (committed self.old.listed.classes self.old.journal) place (record { plus = plus; minus = minus; met = met }) }
+        ensures { self.new ≡ with_pool self.old (with_kept self.old.pool place (record { plus = plus; minus = minus; met = met })) }
+    {
+        self.pool.keep_met(place, met, plus, minus);
+    }
+
+    /// The vectors of a class that were kept last.
+    pub fn kept(&self, place: u32) -> Option<Kept>
+        requires { IsPlace self.now.listed place }
+        ensures value { result ≡ kept_at self.now.pool.kept place }
+        ensures kept { IfSome result (λ kept. IsKept self.now.listed (committed self.now.listed.classes self.now.journal) place kept) }
+    {
+        let (plus, minus) = self.pool.kept(place)?;
+        let met = self.pool.met(place);
+        Some(Kept { plus, minus, met })
+    }
+
     /// Takes memory for a withdrawal and for all events that may follow it up to the next one.
     ///
     /// # Errors
@@ -164,6 +232,7 @@ impl State {
     pub fn make_room(&mut self) -> Result<(), NoMemory>
         ensures listed { self.new.listed ≡ self.old.listed }
         ensures journal { self.new.journal ≡ self.old.journal }
+        ensures pool { self.new.pool ≡ self.old.pool }
         ensures room { OnOk result (room_for_withdrawal self.old.listed ≤ self.new.spare) }
         ensures kept { self.old.spare ≤ self.new.spare }
         ensures err { OnErr result (self.new ≡ self.old) }
@@ -182,39 +251,6 @@ fn version_after(version: u32, event: &Event) -> u32
         Event::Commit { .. } | Event::Withdraw { .. } => version + 1,
         _ => version,
     }
-}
-
-/// The points of the commits that stand, after the event.
-fn follow(points: &mut Vec<Vector>, event: &Event)
-    requires { IsTrue (is_commit event.now) → vec_len points.old < vec_capacity points.old }
-    ensures items { points.new.items ≡ points_after points.old.items event.now }
-    ensures capacity { vec_capacity points.new ≡ vec_capacity points.old }
-{
-    match event {
-        Event::Commit { point, .. } => points.push_reserved(*point),
-        Event::Withdraw { .. } => {
-            let _last = points.pop();
-        }
-        _ => {}
-    }
-}
-
-/// The last of the points, or all ones where there is none.
-fn latest(points: &[Vector], model: &Model) -> Vector
-    ensures { result ≡ fold (λ earlier point. point) (replicate (increments model.now.levels) (pos 1)) points.now }
-{
-    match points.last() {
-        Some(point) => *point,
-        None => ones(model),
-    }
-}
-
-/// The vector of ones.
-fn ones(model: &Model) -> Vector
-    ensures { result ≡ replicate (increments model.now.levels) (pos 1) }
-{
-    let ones = [1; MAX_INCREMENTS];
-    Vector::of(&ones[..usize::from(model.increments())])
 }
 
 #[cfg(test)]

@@ -1,4 +1,4 @@
-use Rattle.std.proofs.Common.{◌≡◌, ◌≤◌, length, vec_len, subst, rules, arith}
+use Rattle.std.proofs.Common.{◌≡◌, ◌≤◌, length, subst, rules, arith}
 use Rattle.survey_core.specs.declared.limits.TheConstants.{MAX_EVENTS}
 use Rattle.survey_core.specs.Legal.{IsLegal}
 use Rattle.survey_core.proofs.ShortLemmas.{legal_is_short_lem}

@@ -1,4 +1,4 @@
-use Rattle.std.proofs.Common.{◌≡◌, ℤ, pos, List, replicate, ap, sym, ◌∙◌, subst}
+use Rattle.std.proofs.Common.{ℤ, pos, List, replicate, ap, sym, ◌∙◌, subst}
 use Rattle.std.specs.List.{fold}
 use Rattle.criteria_model.specs.Worth.{increments}
 use Rattle.criteria_model.specs.Criteria.{Criteria}
@@ -6,15 +6,18 @@ use Rattle.criteria_model.specs.Answers.{MeetsAll}
 use Rattle.survey_core.specs.Histories.{committed}
 use Rattle.survey_core.specs.Laws.{last_point}
 use Rattle.survey_core.proofs.LawLemmas.{last_point_meets_lem}
+use Rattle.survey_state.specs.declared.points.AnswerPoint.{AnswerPoint}
 use Rattle.survey_state.specs.States.{Surveyed}
+use Rattle.survey_state.proofs.PointLemmas.{latest_is}
 use Rattle.survey_state.proofs.state.State.point.Goals as goal
 
 pub returns-clause-value : goal.returns-clause-value
 returns-clause-value c =
     c.latest.ensures
-    ∙ ap (λ (m : Criteria). fold (λ earlier point. point) (replicate (increments m.levels) (pos 1)) c.as_slice.result.now) c.model.ensures.value
-    ∙ ap (λ (points : List (List ℤ)). fold (λ earlier point. point) (replicate (increments c.self.inside.core.listed.criteria.levels) (pos 1)) points)
+    ∙ ap (λ (m : Criteria). fold (λ earlier last. last.point) (replicate (increments m.levels) (pos 1)) c.as_slice.result.now) c.model.ensures.value
+    ∙ ap (λ (points : List AnswerPoint). fold (λ earlier last. last.point) (replicate (increments c.self.inside.core.listed.criteria.levels) (pos 1)) points)
     (c.as_slice.ensures.value ∙ c.self.invariant.points_of)
+    ∙ latest_is c.self.inside.core.listed.criteria.levels c.self.inside.journal.items
     ∙ ap (λ (s : Surveyed). last_point s.listed.criteria.levels s.journal) c.self.view_is
 
 pub returns-clause-meets : goal.returns-clause-meets
