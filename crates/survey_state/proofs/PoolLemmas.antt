@@ -14,7 +14,7 @@ use Rattle.pair_enumeration.specs.Listed.{Listed}
 use Rattle.question_queue.specs.declared.marks.Mark.{Mark}
 use Rattle.question_queue.specs.declared.marks.Kept.{Kept}
 use Rattle.question_queue.specs.Pools.{Pooled, ChangesMark, new_mark, new_pool, with_mark, as_ranked, as_asked, as_given, is_given, is_unranked, is_due, is_job, first_place, given_out, kept_at, vectors_of, met_of, cut_kept}
-use Rattle.question_queue.specs.Laws.{IsFirst}
+use Rattle.question_queue.specs.Laws.{IsFirstPlace}
 use Rattle.question_queue.proofs.FirstLaws.{first_places_are_first}
 use Rattle.survey_core.specs.declared.events.Event.{Event}
 use Rattle.survey_core.specs.declared.events.Event.TheVariants.{Eliminate, Issue, Commit, Close, Withdraw}
@@ -367,18 +367,18 @@ module _ {listed : Listed} {journal : List Event} {pool : Pooled} (kept : KeepsP
             (all (place - 1) found.0 (omega arith)),
       )
 
-  earlier_fails : (test : Mark → Bool) (place : ℕ) → IsFirst test pool.marks place → (earlier : ℕ) → 1 ≤ earlier → earlier < place
+  earlier_fails : (test : Mark → Bool) (place : ℕ) → IsFirstPlace test pool.marks place → (earlier : ℕ) → 1 ≤ earlier → earlier < place
       → (mark : Mark) × IsMarkOf journal earlier mark × IsFalse (test mark)
   earlier_fails test place first earlier low less =
       let found : (mark : Mark) × (slice_get pool.marks (earlier - 1) ≡ Some mark) = found_mark earlier low (omega (arith, first.high)) in
       (found.0, mark_of earlier found.0 low found.1, first.earlier (earlier - 1) found.0 (omega arith) found.1)
 
-  first_passes : (test : Mark → Bool) (place : ℕ) → IsFirst test pool.marks place → (mark : Mark) × IsMarkOf journal place mark × IsTrue (test mark)
+  first_passes : (test : Mark → Bool) (place : ℕ) → IsFirstPlace test pool.marks place → (mark : Mark) × IsMarkOf journal place mark × IsTrue (test mark)
   first_passes test place first =
       let found : (mark : Mark) × (slice_get pool.marks (place - 1) ≡ Some mark) = found_mark place first.low first.high in
       (found.0, mark_of place found.0 first.low found.1, first.passes found.0 found.1)
 
-  class_of_first : (test : Mark → Bool) (place : ℕ) → IsFirst test pool.marks place → IsPlace listed place
+  class_of_first : (test : Mark → Bool) (place : ℕ) → IsFirstPlace test pool.marks place → IsPlace listed place
   class_of_first test place first = (first.low, omega (arith, first.high, kept.len))
 
   pub first_unranked_is : MatchOption (first_place is_unranked pool.marks) (RanksEachClass listed journal) (λ place. IsFirstUnranked listed journal place)
