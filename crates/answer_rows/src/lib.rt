@@ -1,4 +1,5 @@
-//! Lists of answers, numbered from 1, with memory kept for more, and each answer's row.
+//! Lists of answers, numbered from 1, with memory kept for more, each answer's row, and whether two
+//! answers are the same.
 //!
 //! Only `reserve` and `grow` take memory; `push`, `cut` and `copy_from` leave the sum of length and
 //! `spare` as it was, and no call lessens it. Who appends one answer a line calls `grow(1)` before
@@ -6,6 +7,8 @@
 #![tactic(auto)]
 
 mod answers;
+mod same;
 
 pub use answers::Answers;
 pub use criteria_model::Answer;
+pub use same::is_same_answer;

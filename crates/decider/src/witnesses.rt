@@ -10,8 +10,8 @@ ghost use Rattle.simplex.specs.Rows.{IsCoprime};
 ghost use Rattle.decider.specs.declared.witnesses.Witness.{Witness};
 ghost use Rattle.decider.specs.Witnesses.{IsGaining};
 
-use answer_rows::{Answer, Answers};
-use criteria_model::{Model, Pair, Row, Side, Tuple, Vector};
+use answer_rows::{Answer, Answers, is_same_answer};
+use criteria_model::{Model, Pair, Row, Side, Vector};
 use fraction_free::NoMemory;
 use std::alloc::Global;
 use witness_check::meets_from;
@@ -253,25 +253,4 @@ fn begins_with(whole: &[Answer], front: &[Answer]) -> bool
         }
     }
     true
-}
-
-/// Whether the answers are the same.
-fn is_same_answer(one: &Answer, other: &Answer) -> bool
-    ensures { IsTrue result → one.now ≡ other.now }
-{
-    is_same_pair(&one.pair, &other.pair) && one.side == other.side
-}
-
-/// Whether the pairs are the same.
-fn is_same_pair(one: &Pair, other: &Pair) -> bool
-    ensures { IsTrue result → one.now ≡ other.now }
-{
-    is_same_list(&one.left, &other.left) && is_same_list(&one.right, &other.right)
-}
-
-/// Whether the lists of levels are the same.
-fn is_same_list(one: &Tuple, other: &Tuple) -> bool
-    ensures { IsTrue result → one.now ≡ other.now }
-{
-    one.as_slice() == other.as_slice()
 }

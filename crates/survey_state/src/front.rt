@@ -1,7 +1,7 @@
 //! What two lists of answers have in common.
-ghost use Rattle.std.specs.Prelude.{◌≡◌, ◌≤◌, length, take, IsTrue};
+ghost use Rattle.std.specs.Prelude.{◌≡◌, ◌≤◌, length, take};
 
-use criteria_model::{Answer, Pair, Tuple};
+use answer_rows::{Answer, is_same_answer};
 
 /// How many answers in front both lists have.
 pub(crate) fn common_front(one: &[Answer], other: &[Answer]) -> usize
@@ -15,25 +15,4 @@ pub(crate) fn common_front(one: &[Answer], other: &[Answer]) -> usize
         }
     }
     shorter
-}
-
-/// Whether the answers are the same.
-fn is_same_answer(one: &Answer, other: &Answer) -> bool
-    ensures { IsTrue result → one.now ≡ other.now }
-{
-    is_same_pair(&one.pair, &other.pair) && one.side == other.side
-}
-
-/// Whether the pairs are the same.
-fn is_same_pair(one: &Pair, other: &Pair) -> bool
-    ensures { IsTrue result → one.now ≡ other.now }
-{
-    is_same_list(&one.left, &other.left) && is_same_list(&one.right, &other.right)
-}
-
-/// Whether the lists of levels are the same.
-fn is_same_list(one: &Tuple, other: &Tuple) -> bool
-    ensures { IsTrue result → one.now ≡ other.now }
-{
-    one.as_slice() == other.as_slice()
 }
