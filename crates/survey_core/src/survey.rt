@@ -7,7 +7,7 @@ ghost use Rattle.criteria_model.specs.Pairs.{IsFit};
 ghost use Rattle.criteria_model.specs.Classes.{IsClass};
 ghost use Rattle.pair_enumeration.specs.Listed.{IsListed};
 ghost use Rattle.survey_core.specs.Histories.{issued, is_issued, place_of, class_at, committed, is_ranked, is_eliminated, open_questions, IsOpenQuestion, withdrawals as withdrawals_of};
-ghost use Rattle.survey_core.specs.Legal.{IsEvent, IsPlace, AreEarlierAsked, OpensClass, eliminate_parts, issue_parts, commit_parts, close_parts, withdraw_parts, parts, IsSpent, MayFollow, IsLegal};
+ghost use Rattle.survey_core.specs.Legal.{IsEvent, IsPlace, AreEarlierAsked, OpensClass, eliminate_parts, issue_parts, commit_parts, close_parts, withdraw_parts, parts, IsLastAnswer, IsSpent, MayFollow, IsLegal};
 ghost use Rattle.survey_core.specs.Laws.{last_point, RanksEachClass};
 ghost use Rattle.survey_core.specs.Marked.{greatest_cited};
 ghost use Rattle.survey_core.specs.Parts.{IsVerdictOn};
@@ -280,13 +280,20 @@ impl Core {
     fn may_withdraw(&self, answer: u32) -> Result<(), Broken>
         ensures { IsVerdictOn (withdraw_parts self.now.listed self.now.history answer) result }
     {
-        if answer == 0 || answer != self.answers.len() {
+        if !self.is_last_answer(answer) {
             return Err(Broken::Nothing);
         }
         if self.is_spent() {
             return Err(Broken::Spent);
         }
         Ok(())
+    }
+
+    /// Whether it is the number of the last answer.
+    fn is_last_answer(&self, answer: u32) -> bool
+        ensures { IsTrue result ↔ IsLastAnswer self.now.listed self.now.history answer }
+    {
+        answer >= 1 && answer == self.answers().len()
     }
 
     /// Whether no further withdrawal is allowed.
