@@ -95,9 +95,9 @@ cited_none answers rows are = record {
 
 -- ---- one answer more
 
-rows_more : (answers : List Answer) (held : ℕ) (answer : Answer) → held < length answers → slice_get answers held ≡ Some answer
+pub rows_in-more : (answers : List Answer) (held : ℕ) (answer : Answer) → held < length answers → slice_get answers held ≡ Some answer
     → rows_in (take (held + 1) answers) ≡ rows_in (take held answers) + rows_for answer.side
-rows_more answers held answer lt here =
+rows_in-more answers held answer lt here =
     sum_by_more (λ (a : Answer). rows_for a.side) answers held answer lt
     ∙ ap (λ (a : Answer). rows_in (take held answers) + rows_for a.side) (get_or_from_slice_get answers held answer answer here)
 
@@ -113,7 +113,7 @@ module _ (answers : List Answer) (rows : List RowWeight) (held row taken more : 
   place = omega arith
 
   row_is : row + rows_for answer.side ≡ rows_in (take (held + 1) answers) + 1
-  row_is = omega (arith, so.row_is, rows_more answers held answer lt here)
+  row_is = omega (arith, so.row_is, rows_in-more answers held answer lt here)
 
   first : first_row answers (held + 1) ≡ row
   first = ap (λ (n : ℕ). rows_in (take n answers) + 1) place ∙ sym so.row_is
@@ -216,4 +216,4 @@ cited_all answers rows held row taken cites past within so = record {
 -- the number of the next answer's first row
 pub next_row : (answers : List Answer) (rows : List RowWeight) (held row taken : ℕ) (cites : List Cite) (answer : Answer) → held < length answers → slice_get answers held ≡ Some answer
     → CitedSoFar answers rows held row taken cites → row + rows_for answer.side ≤ rows_in answers + 1
-next_row answers rows held row taken cites answer lt here so = omega (arith, so.row_is, rows_more answers held answer lt here, rows_in-take-le answers (held + 1))
+next_row answers rows held row taken cites answer lt here so = omega (arith, so.row_is, rows_in-more answers held answer lt here, rows_in-take-le answers (held + 1))

@@ -71,7 +71,7 @@ reduced_ranks levels pair side point given kept same multiple ranks =
 
 -- ---- two vectors that open the pair
 
-tried_ranks : (levels : List ℕ) (columns : ℕ) (loaded : List LoadedRow) (v : List ℤ) (pair : Pair) (side : Side) → columns ≡ increments levels
+pub tried_ranks : (levels : List ℕ) (columns : ℕ) (loaded : List LoadedRow) (v : List ℤ) (pair : Pair) (side : Side) → columns ≡ increments levels
     → MeetsRows columns (loaded ++ rows_of levels pair side) v → Ranks levels v pair side
 tried_ranks levels columns loaded v pair side e meets =
     meets_ranks levels v pair side (subst (λ (n : ℕ). MeetsRows n (rows_of levels pair side) v) e (meets_later columns loaded (rows_of levels pair side) v meets))
@@ -193,7 +193,9 @@ pub implied_few : (levels : List ℕ) (answers : List Answer) (d : DictionaryVie
     → IsRefuted levels answers d point pair side tried clash combination
     → count_by is_weight (weights_of combination) ≤ 24
 implied_few levels answers d point pair side tried clash combination r =
-    omega (arith, few_weights levels answers pair side clash combination (combined levels answers d point pair side tried clash combination r), r.stands.columns, r.dictionary.columns_most)
+    let c = combined levels answers d point pair side tried clash combination r in
+    let few = few_weights (increments levels) (rows_of_answers levels answers ++ rows_of levels pair (against side)) answers clash combination c.clashes c.ends c.combines in
+    omega (arith, few, r.stands.columns, r.dictionary.columns_most)
 
 opens_of : (levels : List ℕ) (answers : List Answer) (d : DictionaryView) (pair : Pair) (plus minus : List ℤ) → StandsFor levels answers d
     → OpensRows levels d.columns d.loaded pair plus minus → Opens levels answers pair plus minus

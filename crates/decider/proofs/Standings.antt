@@ -151,7 +151,7 @@ none_other levels answers d row held answer within e lt so differs k le stands =
 
 -- ---- how many rows
 
-rows_most : (levels : List ℕ) (pair : Pair) (side : Side) → length (rows_of levels pair side) ≤ 2
+pub rows_most : (levels : List ℕ) (pair : Pair) (side : Side) → length (rows_of levels pair side) ≤ 2
 rows_most levels pair Left = omega arith
 rows_most levels pair Right = omega arith
 rows_most levels pair Equal = omega arith

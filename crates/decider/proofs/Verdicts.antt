@@ -22,6 +22,7 @@ use Rattle.farkas_check.specs.Cited.{no_cite}
 use Rattle.farkas_check.specs.Sums.{cited_side}
 use Rattle.farkas_check.specs.Proof.{MayWeigh, IsStrict, IsThere, HasStrict, HasPositiveScale, HasNonnegativeIncrements, HasCited, HasWeights, HasSums, IsStrictEnough, Proves}
 use Rattle.farkas_check.proofs.Ranking.{proved_is_ranked_lem}
+use Rattle.fraction_free.specs.declared.loaded.LoadedRow.{LoadedRow}
 use Rattle.simplex.specs.declared.row_weights.RowWeight.{RowWeight}
 use Rattle.simplex.specs.declared.found.Clash.{Clash}
 use Rattle.simplex.specs.Weights.{is_weight, no_weight, weighted}
@@ -85,6 +86,62 @@ tried_is_last levels answers point pair side clash meets is =
         let empty : length clash.rows ≤ 0 = ltb-false 0 (length clash.rows) none in
         absurd (none_beyond (λ k x lt. absurd (omega arith)))
 
+-- ---- how many numbers a combination has, and how many aren't 0
+
+module _ (columns : ℕ) (loaded : List LoadedRow) (answers : List Answer) (clash : Clash) (combination : Combination)
+    (clashes : IsClash columns loaded clash) (ends : EndsWithTried answers clash.rows) (combines : Combines answers clash combination) where
+  pub own_len : length combination.increments ≡ columns
+  own_len = sym (length-times combines.divisor combination.increments) ∙ sym (ap length combines.increments) ∙ clashes.len
+
+  times_len : length (times_cites combines.divisor combination.answers) ≡ length combination.answers
+  times_len = length-map combination.answers (λ (cite : Cite). record { answer = cite.answer; weight = combines.divisor *ℤ cite.weight })
+
+  divisor_nonzero : combines.divisor ≢ pos 0
+  divisor_nonzero e = contradict (subst (λ (n : ℤ). pos 1 ≤ℤ n) e combines.positive)
+    where
+      contradict : pos 1 ≤ℤ pos 0 → ⊥
+      contradict h = omega (arith, ints)
+
+  -- at most as many weights as columns aren't 0
+  pub few_weights : count_by is_weight (weights_of combination) ≤ columns
+  few_weights =
+      omega (
+        arith,
+        sum_by-append (λ (x : ℤ). cond (is_weight x) 1 0) combination.increments (map (λ cite. cite.weight) combination.answers),
+        count_same,
+        count_by-le-length is_weight (map (λ cite. cite.weight) combination.answers),
+        length-map combination.answers (λ (cite : Cite). cite.weight),
+        combines.cites.few,
+        times_len,
+        length-take-le (length clash.rows - 1) clash.rows (omega arith),
+        clashes.few,
+        ends.some,
+      )
+    where
+      weighs_same : (x : ℤ) → is_weight (combines.divisor *ℤ x) ≡ is_weight x
+      weighs_same x = from (cases_Bool (is_weight (combines.divisor *ℤ x))) (cases_Bool (is_weight x))
+        where
+          zero_of : (a : ℤ) → is_weight a ≡ false → a ≡ pos 0
+          zero_of (pos zero) e = refl
+          zero_of (pos (suc n)) e = absurd (true≢false e)
+          zero_of (negsuc n) e = absurd (true≢false e)
+
+          from : (is_weight (combines.divisor *ℤ x) ≡ true) ⊎ (is_weight (combines.divisor *ℤ x) ≡ false) → (is_weight x ≡ true) ⊎ (is_weight x ≡ false) → is_weight (combines.divisor *ℤ x) ≡ is_weight x
+          from (inl e) (inl f) = e ∙ sym f
+          from (inr e) (inr f) = e ∙ sym f
+          from (inl e) (inr f) = ap is_weight (ap (λ (n : ℤ). combines.divisor *ℤ n) (zero_of x f) ∙ mul-zero combines.divisor) ∙ sym f
+          from (inr e) (inl f) = e ∙ sym (ap is_weight (cancel combines.divisor x (pos 0) divisor_nonzero (zero_of (combines.divisor *ℤ x) e ∙ sym (mul-zero combines.divisor))))
+
+      count_times : (xs : List ℤ) → count_by is_weight (times combines.divisor xs) ≡ count_by is_weight xs
+      count_times [] = refl
+      count_times (x ∷ xs) =
+          sum_by-cons (λ (y : ℤ). cond (is_weight y) 1 0) (combines.divisor *ℤ x) (times combines.divisor xs)
+          ∙ omega (arith, ap {B = ℕ} (λ (b : Bool). cond b 1 0) (weighs_same x), count_times xs)
+          ∙ sym (sum_by-cons (λ (y : ℤ). cond (is_weight y) 1 0) x xs)
+
+      count_same : count_by is_weight clash.increments ≡ count_by is_weight combination.increments
+      count_same = ap (count_by is_weight) combines.increments ∙ count_times combination.increments
+
 -- ---- the parts of a proof
 
 -- a combination of a clash with the ranking that is tried against this one
@@ -113,8 +170,11 @@ module _ (levels : List ℕ) (answers : List Answer) (pair : Pair) (side : Side)
   last : length clash.rows - 1 < length clash.rows
   last = let s = c.ends.some in omega arith
 
-  own_len : length combination.increments ≡ increments levels
-  own_len = sym (length-times d combination.increments) ∙ sym (ap length c.combines.increments) ∙ c.clashes.len
+  abbrev loaded : List LoadedRow
+  loaded = rows_of_answers levels answers ++ rows_of levels pair (against side)
+
+  own_length : length combination.increments ≡ increments levels
+  own_length = own_len (increments levels) loaded answers clash combination c.clashes c.ends c.combines
 
   scale : HasPositiveScale combination
   scale = positive_factor d combination.scale tried.weight c.combines.positive (at_least_one tried.weight (c.clashes.weights.each (length clash.rows - 1) no_weight last).positive) c.combines.scale
@@ -127,18 +187,18 @@ module _ (levels : List ℕ) (answers : List Answer) (pair : Pair) (side : Side)
 
   own : HasNonnegativeIncrements combination
   own = All-from_get_or (λ weight. pos 0 ≤ℤ weight) combination.increments (pos 0) (λ k lt.
-      nonneg_factor d (get_or combination.increments k (pos 0)) (get_or clash.increments k (pos 0)) c.combines.positive (c.clashes.own k (pos 0) (omega (arith, own_len, c.clashes.len))) (own_at k))
+      nonneg_factor d (get_or combination.increments k (pos 0)) (get_or clash.increments k (pos 0)) c.combines.positive (c.clashes.own k (pos 0) (omega (arith, own_length, c.clashes.len))) (own_at k))
 
   cite_at : (k : ℕ) → k < length combination.answers → get_or (times_cites d combination.answers) k no_cite
       ≡ record { answer = (get_or combination.answers k no_cite).answer; weight = d *ℤ (get_or combination.answers k no_cite).weight }
   cite_at k lt = get_or-map (λ cite. record { answer = cite.answer; weight = d *ℤ cite.weight }) combination.answers k no_cite no_cite lt
 
-  times_len : length (times_cites d combination.answers) ≡ length combination.answers
-  times_len = length-map combination.answers (λ (cite : Cite). record { answer = cite.answer; weight = d *ℤ cite.weight })
+  cites_len : length (times_cites d combination.answers) ≡ length combination.answers
+  cites_len = times_len (increments levels) loaded answers clash combination c.clashes c.ends c.combines
 
   cited : HasCited answers combination
   cited = All-from_get_or (IsThere answers) combination.answers no_cite (λ k lt.
-      subst (λ (cite : Cite). IsThere answers cite) (cite_at k lt) (c.combines.cites.cited k no_cite (omega (arith, times_len))))
+      subst (λ (cite : Cite). IsThere answers cite) (cite_at k lt) (c.combines.cites.cited k no_cite (omega (arith, cites_len))))
 
   may_factor : (s : Side) (q : ℤ) → MayWeigh s (d *ℤ q) → MayWeigh s q
   may_factor Left q may = nonneg_factor d q (d *ℤ q) c.combines.positive may refl
@@ -148,7 +208,7 @@ module _ (levels : List ℕ) (answers : List Answer) (pair : Pair) (side : Side)
   weights : HasWeights answers combination
   weights = All-from_get_or (λ cite. MayWeigh (cited_side answers cite) cite.weight) combination.answers no_cite (λ k lt.
       may_factor (cited_side answers (get_or combination.answers k no_cite)) (get_or combination.answers k no_cite).weight
-      (subst (λ (cite : Cite). MayWeigh (cited_side answers cite) cite.weight) (cite_at k lt) (c.combines.cites.weights k no_cite (omega (arith, times_len)))))
+      (subst (λ (cite : Cite). MayWeigh (cited_side answers cite) cite.weight) (cite_at k lt) (c.combines.cites.weights k no_cite (omega (arith, cites_len)))))
 
   abbrev of : ℕ → ℕ → ℤ
   of j = coefficient (rows_of_answers levels answers ++ rows_of levels pair (against side)) j
@@ -178,17 +238,11 @@ module _ (levels : List ℕ) (answers : List Answer) (pair : Pair) (side : Side)
           ∙ ap (λ (n : ℤ). d *ℤ cited_sum (λ number. of j (first_row answers number)) combination.answers +ℤ (d *ℤ combination.scale) *ℤ n)
           (ap (of j) c.ends.last ∙ tried_coefficient levels answers pair (against side) j)
 
-  divisor_nonzero : d ≢ pos 0
-  divisor_nonzero e = contradict (subst (λ (n : ℤ). pos 1 ≤ℤ n) e c.combines.positive)
-    where
-      contradict : pos 1 ≤ℤ pos 0 → ⊥
-      contradict h = omega (arith, ints)
-
   sum_at : (j : ℕ) → j < increments levels
       → combination.scale *ℤ get_or (gain levels pair side) j (pos 0) ≡ get_or combination.increments j (pos 0) +ℤ cited_sum (λ number. of j (first_row answers number)) combination.answers
   sum_at j lt =
       cancel d (combination.scale *ℤ get_or (gain levels pair side) j (pos 0))
-      (get_or combination.increments j (pos 0) +ℤ cited_sum (λ number. of j (first_row answers number)) combination.answers) divisor_nonzero
+      (get_or combination.increments j (pos 0) +ℤ cited_sum (λ number. of j (first_row answers number)) combination.answers) (divisor_nonzero (increments levels) loaded answers clash combination c.clashes c.ends c.combines)
       (ap (λ (n : ℤ). d *ℤ (combination.scale *ℤ n)) (gain_against levels pair side j)
       ∙ moved d combination.scale (get_or (gain levels pair (against side)) j (pos 0)) (get_or combination.increments j (pos 0))
       (cited_sum (λ number. of j (first_row answers number)) combination.answers) (clash_at j lt))
@@ -213,7 +267,7 @@ module _ (levels : List ℕ) (answers : List Answer) (pair : Pair) (side : Side)
 
   proves_with : (p : Pair) (s : Side) → gain levels p s ≡ gain levels pair side → IsStrictEnough answers combination s → Proves levels answers combination p s
   proves_with p s same strict = record {
-    len = own_len;
+    len = own_length;
     scale = scale;
     own = own;
     cited = cited;
@@ -221,47 +275,6 @@ module _ (levels : List ℕ) (answers : List Answer) (pair : Pair) (side : Side)
     sums = λ j lt. ap (λ row. combination.scale *ℤ get_or row j (pos 0)) same ∙ sums_hold j lt;
     strict = strict;
   }
-
-  -- ---- how many weights aren't 0
-
-  pub few_weights : count_by is_weight (weights_of combination) ≤ increments levels
-  few_weights =
-      omega (
-        arith,
-        sum_by-append (λ (x : ℤ). cond (is_weight x) 1 0) combination.increments (map (λ cite. cite.weight) combination.answers),
-        count_same,
-        count_by-le-length is_weight (map (λ cite. cite.weight) combination.answers),
-        length-map combination.answers (λ (cite : Cite). cite.weight),
-        c.combines.cites.few,
-        times_len,
-        length-take-le (length clash.rows - 1) clash.rows (omega arith),
-        c.clashes.few,
-        c.ends.some,
-      )
-    where
-      weighs_same : (x : ℤ) → is_weight (d *ℤ x) ≡ is_weight x
-      weighs_same x = from (cases_Bool (is_weight (d *ℤ x))) (cases_Bool (is_weight x))
-        where
-          zero_of : (a : ℤ) → is_weight a ≡ false → a ≡ pos 0
-          zero_of (pos zero) e = refl
-          zero_of (pos (suc n)) e = absurd (true≢false e)
-          zero_of (negsuc n) e = absurd (true≢false e)
-
-          from : (is_weight (d *ℤ x) ≡ true) ⊎ (is_weight (d *ℤ x) ≡ false) → (is_weight x ≡ true) ⊎ (is_weight x ≡ false) → is_weight (d *ℤ x) ≡ is_weight x
-          from (inl e) (inl f) = e ∙ sym f
-          from (inr e) (inr f) = e ∙ sym f
-          from (inl e) (inr f) = ap is_weight (ap (λ (n : ℤ). d *ℤ n) (zero_of x f) ∙ mul-zero d) ∙ sym f
-          from (inr e) (inl f) = e ∙ sym (ap is_weight (cancel d x (pos 0) divisor_nonzero (zero_of (d *ℤ x) e ∙ sym (mul-zero d))))
-
-      count_times : (xs : List ℤ) → count_by is_weight (times d xs) ≡ count_by is_weight xs
-      count_times [] = refl
-      count_times (x ∷ xs) =
-          sum_by-cons (λ (y : ℤ). cond (is_weight y) 1 0) (d *ℤ x) (times d xs)
-          ∙ omega (arith, ap {B = ℕ} (λ (b : Bool). cond b 1 0) (weighs_same x), count_times xs)
-          ∙ sym (sum_by-cons (λ (y : ℤ). cond (is_weight y) 1 0) x xs)
-
-      count_same : count_by is_weight clash.increments ≡ count_by is_weight combination.increments
-      count_same = ap (count_by is_weight) c.combines.increments ∙ count_times combination.increments
 
 -- ---- a strict weight, or none
 

@@ -13,7 +13,7 @@ ghost use Rattle.decider.specs.Trying.{against, OpensRows, IsTried};
 use crate::combination::combination_of;
 use crate::decision::Decision;
 use crate::standing::bring_up;
-use crate::trial::{point_for, try_side};
+use crate::trial::{other_side, point_for, try_side};
 use answer_rows::Answers;
 use criteria_model::{Model, Pair, Side, Vector};
 use fraction_free::Dictionary;
@@ -52,16 +52,6 @@ pub fn decide(
             let (plus, minus) = opening(model, point, pair, verdict, &other, work);
             Decision::Undecided { plus, minus }
         }
-    }
-}
-
-/// The ranking that is tried against this one.
-fn other_side(verdict: Side) -> Side
-    ensures { result ≡ against verdict }
-{
-    match verdict {
-        Side::Right => Side::Left,
-        _ => Side::Right,
     }
 }
 

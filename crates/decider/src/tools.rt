@@ -5,14 +5,15 @@ ghost use Rattle.criteria_model.specs.Pairs.{IsFit};
 ghost use Rattle.criteria_model.specs.Answers.{Ranks, MeetsAll, Opens};
 ghost use Rattle.fraction_free.specs.Dictionary.{IsDictionary};
 ghost use Rattle.simplex.specs.Rows.{IsCoprime};
-ghost use Rattle.decider.specs.Standing.{StandsFor};
-ghost use Rattle.decider.specs.Decisions.{IsDecision};
+ghost use Rattle.decider.specs.Standing.{StandsFor, HasRoom, KeepsRoom};
+ghost use Rattle.decider.specs.Decisions.{IsDecision, IsExact, HasFewWeights};
 ghost use Rattle.decider.specs.Reserved.{IsReserved};
 ghost use Rattle.decider.specs.ToolDecisions.{AreReady, Decides};
 
 use crate::decision::Decision;
 use crate::decisions::decide;
 use crate::one_answer::implied_by_one;
+use crate::tested::tested_decision;
 use crate::witnesses::Witnesses;
 use answer_rows::Answers;
 use criteria_model::{MAX_INCREMENTS, Model, Pair, Side, Vector};
@@ -101,16 +102,11 @@ impl Tools {
     fn solve(&mut self, model: &Model, pair: &Pair, verdict: Side) -> Decision
         requires ready { AreReady model.now self.old }
         requires fits { IsFit model.now.levels pair.now }
+        requires ranked { Ranks model.now.levels self.old.snapshot.point pair.now verdict }
         ensures { Decides model.now self.old self.new pair.now result }
     {
         let snapshot = &self.snapshot;
-        let decision = decide(
-            model,
-            &snapshot.answers,
-            &snapshot.point,
-            pair,
-            &mut self.work,
-        );
+        let decision = solved(model, snapshot, pair, verdict, &mut self.work);
         keep_found(
             model,
             &snapshot.answers,
@@ -120,6 +116,33 @@ impl Tools {
             &mut self.witnesses,
         );
         decision
+    }
+}
+
+/// The decision by the dictionary as it stands, else by one that stands for the answers. The point ranks the pair as
+/// `verdict` says.
+fn solved(
+    model: &Model,
+    snapshot: &Snapshot,
+    pair: &Pair,
+    verdict: Side,
+    work: &mut Dictionary,
+) -> Decision
+    requires answers_fit { All (λ answer. IsFit model.now.levels answer.pair) snapshot.now.answers.answers }
+    requires pair_fits { IsFit model.now.levels pair.now }
+    requires meets { MeetsAll model.now.levels snapshot.now.answers.answers snapshot.now.point }
+    requires ranked { Ranks model.now.levels snapshot.now.point pair.now verdict }
+    requires room { HasRoom model.now.levels snapshot.now.answers.answers work.old }
+    ensures decision { IsDecision model.now.levels snapshot.now.answers.answers pair.now result }
+    ensures exact { IsExact model.now.levels snapshot.now.answers.answers pair.now result }
+    ensures few { HasFewWeights result }
+    ensures room { KeepsRoom work.old work.new }
+{
+    let answers = &snapshot.answers;
+    let point = &snapshot.point;
+    match tested_decision(model, answers, point, pair, verdict, work) {
+        Some(decision) => decision,
+        None => decide(model, answers, point, pair, work),
     }
 }
 

@@ -6,12 +6,22 @@ ghost use Rattle.fraction_free.specs.Dictionary.{IsDictionary};
 ghost use Rattle.simplex.specs.Rows.{MeetsRows, IsCoprime};
 ghost use Rattle.simplex.specs.Results.{IsFound, KeepsRows};
 ghost use Rattle.decider.specs.Standing.{rows_of};
-ghost use Rattle.decider.specs.Trying.{IsTried};
+ghost use Rattle.decider.specs.Trying.{against, IsTried};
 
 use crate::rows::{add_rows, row_count};
 use criteria_model::{Model, Pair, Side, Vector};
 use fraction_free::Dictionary;
 use simplex::{Found, settle, solve, solve_last};
+
+/// The ranking that is tried against this one.
+pub fn other_side(verdict: Side) -> Side
+    ensures { result ≡ against verdict }
+{
+    match verdict {
+        Side::Right => Side::Left,
+        _ => Side::Right,
+    }
+}
 
 /// What the solver finds with the rows of the ranking added; they are dropped afterwards. A single row is raised from
 /// a feasible dictionary, which stays so.
