@@ -1,1 +1,5 @@
+mod ArrayLemmas
+mod LevelLemmas
 mod MemberLemmas
+mod NumberLemmas
+mod ObjectLemmas

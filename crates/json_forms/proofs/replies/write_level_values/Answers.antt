@@ -1,0 +1,103 @@
+use Rattle.std.proofs.Common.{◌≡◌, ℕ, ◌<◌, ◌++◌, ◌∙◌, false, length, map, ap, arith}
+use Rattle.std.specs.List.{range_with_len}
+use Rattle.criteria_model.proofs.LevelLemmas.{length-le-increments}
+use Rattle.json_forms.specs.Json.{array_of, certificate}
+use Rattle.json_forms.specs.Replies.{level_values}
+use Rattle.json_forms.proofs.ArrayLemmas.{front, range_more, array_end}
+use Rattle.json_forms.proofs.LevelLemmas.{increments_more, increments_more_le, increments-take-le, first-place}
+use Rattle.json_forms.proofs.replies.write_level_values.Goals as goal
+
+pub separate-requires : goal.separate-requires
+separate-requires c =
+    let model = c.criteria-place-end.ensures.model in
+    omega (
+      arith,
+      length-le-increments c.args.model.now.levels model.two_levels,
+      model.few_increments,
+      increments-take-le c.args.model.now.levels c.loop-place.place,
+      c.criteria-place-end.ensures.value,
+      c.loop-place-test.true,
+      c.loop-place.invariant.short,
+      c.loop-place.invariant.room,
+      c.put.ensures.grown,
+      c.put.ensures.room,
+      c.requires.room,
+    )
+
+pub write_values_of-requires-clause-room : goal.write_values_of-requires-clause-room
+write_values_of-requires-clause-room c =
+    let model = c.criteria-place-end.ensures.model in
+    let within : c.loop-place.place < length c.args.model.now.levels = omega (arith, c.criteria-place-end.ensures.value, c.loop-place-test.true) in
+    rw (first-place c.loop-place.place)
+    (omega (
+      arith,
+      length-le-increments c.args.model.now.levels model.two_levels,
+      model.few_increments,
+      increments_more_le c.args.model.now.levels c.loop-place.place within,
+      c.criteria-place-end.ensures.value,
+      c.loop-place-test.true,
+      c.loop-place.invariant.short,
+      c.loop-place.invariant.room,
+      c.put.ensures.grown,
+      c.put.ensures.room,
+      c.requires.room,
+      c.separate.ensures.grown,
+      c.separate.ensures.room,
+    ))
+
+pub loop-place-preserved : goal.loop-place-preserved
+loop-place-preserved c =
+    let levels = c.args.model.now.levels in
+    let within : c.loop-place.place < length c.args.model.now.levels = omega (arith, c.criteria-place-end.ensures.value, c.loop-place-test.true) in
+    record {
+      out = range_more (λ criterion. array_of certificate (level_values levels c.args.vector.now criterion)) c.loop-place.place c.put.new.out.bytes c.loop-place.out.bytes c.separate.new.out.bytes c.write_values_of.new.out.bytes
+          c.loop-place.invariant.out c.separate.ensures.bytes c.write_values_of.ensures.bytes;
+      short = omega (
+        arith,
+        increments_more levels c.loop-place.place within,
+        c.loop-place.invariant.short,
+        c.separate.ensures.grown,
+        rw (first-place c.loop-place.place) at c.write_values_of.ensures.grown,
+      );
+      room = c.write_values_of.ensures.room ∙ c.separate.ensures.room ∙ c.loop-place.invariant.room;
+    }
+
+pub put-requires-2 : goal.put-requires-2
+put-requires-2 c =
+    let model = c.criteria-place-end.ensures.model in
+    omega (
+      arith,
+      length-le-increments c.args.model.now.levels model.two_levels,
+      model.few_increments,
+      increments-take-le c.args.model.now.levels c.loop-place.place,
+      c.criteria-place-end.ensures.value,
+      c.loop-place.auto.place-end,
+      c.loop-place.invariant.short,
+      c.loop-place.invariant.room,
+      c.put.ensures.grown,
+      c.put.ensures.room,
+      c.requires.room,
+    )
+
+pub returns-clause-bytes : goal.returns-clause-bytes
+returns-clause-bytes c =
+    let f = λ (criterion : ℕ). array_of certificate (level_values c.args.model.now.levels c.args.vector.now criterion) in
+    let end : c.loop-place.place ≡ length c.args.model.now.levels = omega (arith, c.criteria-place-end.ensures.value, c.loop-place.auto.place-end, c.loop-place-test.false) in
+    array_end (map f (range_with_len 1 (length c.args.model.now.levels))) c.args.out.now.bytes c.put.new.out.bytes c.loop-place.out.bytes c.put-2.new.out.bytes c.put.ensures.bytes
+    (c.loop-place.invariant.out ∙ ap (λ n. c.put.new.out.bytes ++ front false (map f (range_with_len 1 n))) end)
+    c.put-2.ensures.bytes
+
+pub returns-clause-grown : goal.returns-clause-grown
+returns-clause-grown c =
+    let model = c.criteria-place-end.ensures.model in
+    omega (
+      arith,
+      length-le-increments c.args.model.now.levels model.two_levels,
+      model.few_increments,
+      increments-take-le c.args.model.now.levels c.loop-place.place,
+      c.criteria-place-end.ensures.value,
+      c.loop-place.auto.place-end,
+      c.loop-place.invariant.short,
+      c.put.ensures.grown,
+      c.put-2.ensures.grown,
+    )

@@ -1,0 +1,324 @@
+#![tactic(auto, unfolding(json::specs::Print::escape_byte))]
+
+ghost use Rattle.std.specs.Prelude.{◌≡◌, ◌+◌, ◌-◌, ◌*◌, ◌≤◌, ◌++◌, codes, decimal, length, slice_index};
+ghost use Rattle.criteria_model.specs.Worth.{IsValueVector, increments};
+ghost use Rattle.json.specs.Print.{quoted};
+ghost use Rattle.serde_json.specs.Written.{compact_text};
+ghost use Rattle.json_forms.specs.Json.{array_of, certificate, named};
+ghost use Rattle.json_forms.specs.Sides.{side_word};
+ghost use Rattle.json_forms.specs.Replies.{IsWritable, HasVector, line_of, reply_text, welcome_json, next_json, question_json, answer_json, implied_json, combination_json, values_json, vector_json, level_values, level_values_json, incomplete_json, withdraw_json, withdrawn_json, refused_json, word_text};
+
+use crate::writing::{Item, put, separate, write_array};
+use criteria_model::{MAX_LEVEL, Model, Pair, Side, Vector};
+use edges::Text;
+use farkas_check::Combination;
+use part_worths::{level_value, shares};
+use survey_replies::{AnswerReply, NextReply, ValuesReply, WithdrawReply};
+
+/// The most bytes that are written for a reply, its line end among them.
+pub const MAX_REPLY: u32 = 4_095;
+
+/// Why a line is refused.
+#[derive(Clone, Copy, PartialEq, Eq, Debug)]
+pub enum Word {
+    /// It is no message, or a second hello.
+    Message,
+    /// It is no hello.
+    Hello,
+    /// No respondent has the name.
+    Name,
+    /// The code isn't the respondent's.
+    Code,
+    /// There is no such desk.
+    Desk,
+    /// It is too long.
+    Line,
+    /// There were too many.
+    Messages,
+}
+
+/// A reply to a line.
+#[derive(Clone, Copy, PartialEq, Eq, Debug)]
+pub enum Reply {
+    Welcome { classes: u32, desk: u8 },
+    Next(NextReply),
+    Answer(AnswerReply),
+    Values(ValuesReply),
+    Withdraw(WithdrawReply),
+    /// The result file of the first `length` events.
+    Result { length: u32 },
+    Bye,
+    Refused(Word),
+}
+
+/// Writes the line of a reply. For [`Reply::Result`] nothing is written: its text is the result file.
+pub fn write_reply(reply: &Reply, model: &Model, out: &mut Text)
+    requires vector { IsWritable model.now.levels reply.now }
+    requires room { length out.old.bytes + MAX_REPLY ≤ out.old.room }
+    ensures bytes { out.new.bytes ≡ out.old.bytes ++ reply_text model.now.levels reply.now }
+    ensures room { out.new.room ≡ out.old.room }
+    ensures short { length (reply_text model.now.levels reply.now) ≤ MAX_REPLY }
+{
+    match reply {
+        Reply::Welcome { classes, desk } => write_welcome(*classes, *desk, out),
+        Reply::Next(reply) => write_next(reply, out),
+        Reply::Answer(reply) => write_answer(reply, out),
+        Reply::Values(reply) => write_values(reply, model, out),
+        Reply::Withdraw(reply) => write_withdraw(*reply, out),
+        Reply::Result { .. } => {}
+        Reply::Bye => put(b"{\"bye\":true}\n", out),
+        Reply::Refused(word) => write_refused(*word, out),
+    }
+}
+
+fn write_welcome(classes: u32, desk: u8, out: &mut Text)
+    requires { length out.old.bytes + MAX_REPLY ≤ out.old.room }
+    ensures bytes { out.new.bytes ≡ out.old.bytes ++ line_of (welcome_json classes desk) }
+    ensures room { out.new.room ≡ out.old.room }
+    ensures grown { length out.new.bytes ≤ length out.old.bytes + MAX_REPLY }
+{
+    put(b"{\"welcome\":{\"classes\":", out);
+    classes.write(out);
+    put(b",\"desk\":", out);
+    desk.write(out);
+    put(b"}}\n", out);
+}
+
+fn write_next(reply: &NextReply, out: &mut Text)
+    requires { length out.old.bytes + MAX_REPLY ≤ out.old.room }
+    ensures bytes { out.new.bytes ≡ out.old.bytes ++ line_of (next_json reply.now) }
+    ensures room { out.new.room ≡ out.old.room }
+    ensures grown { length out.new.bytes ≤ length out.old.bytes + MAX_REPLY }
+{
+    match reply {
+        NextReply::Question { number, pair, .. } => write_question(*number, pair, out),
+        NextReply::Full { .. } => put(b"{\"full\":true}\n", out),
+        NextReply::Waiting { .. } => put(b"{\"waiting\":true}\n", out),
+        NextReply::Complete { .. } => put(b"{\"complete\":true}\n", out),
+    }
+}
+
+fn write_question(number: u32, pair: &Pair, out: &mut Text)
+    requires { length out.old.bytes + MAX_REPLY ≤ out.old.room }
+    ensures bytes { out.new.bytes ≡ out.old.bytes ++ line_of (question_json number pair.now) }
+    ensures room { out.new.room ≡ out.old.room }
+    ensures grown { length out.new.bytes ≤ length out.old.bytes + MAX_REPLY }
+{
+    put(b"{\"question\":{\"left\":", out);
+    write_array(pair.left.as_slice(), out);
+    put(b",\"number\":", out);
+    number.write(out);
+    put(b",\"right\":", out);
+    write_array(pair.right.as_slice(), out);
+    put(b"}}\n", out);
+}
+
+fn write_answer(reply: &AnswerReply, out: &mut Text)
+    requires { length out.old.bytes + MAX_REPLY ≤ out.old.room }
+    ensures bytes { out.new.bytes ≡ out.old.bytes ++ line_of (answer_json reply.now) }
+    ensures room { out.new.room ≡ out.old.room }
+    ensures grown { length out.new.bytes ≤ length out.old.bytes + MAX_REPLY }
+{
+    match reply {
+        AnswerReply::Accepted { question, .. } => write_numbered(b"{\"accepted\":", *question, out),
+        AnswerReply::Unknown { question, .. } => write_numbered(b"{\"unknown\":", *question, out),
+        AnswerReply::Closed { question, .. } => write_numbered(b"{\"closed\":", *question, out),
+        AnswerReply::Implied {
+            question,
+            verdict,
+            combination,
+            ..
+        } => write_implied(*question, *verdict, combination, out),
+    }
+}
+
+/// Writes a line that ends with a number.
+fn write_numbered(front: &[u8], number: u32, out: &mut Text)
+    requires front { length front.now ≤ 16 }
+    requires room { length out.old.bytes + 32 ≤ out.old.room }
+    ensures bytes { out.new.bytes ≡ out.old.bytes ++ (front.now ++ (decimal number ++ codes "}\n")) }
+    ensures room { out.new.room ≡ out.old.room }
+    ensures grown { length out.new.bytes ≤ length out.old.bytes + 32 }
+{
+    put(front, out);
+    number.write(out);
+    put(b"}\n", out);
+}
+
+fn write_implied(question: u32, verdict: Side, combination: &Combination, out: &mut Text)
+    requires { length out.old.bytes + MAX_REPLY ≤ out.old.room }
+    ensures bytes { out.new.bytes ≡ out.old.bytes ++ line_of (implied_json question verdict combination.now) }
+    ensures room { out.new.room ≡ out.old.room }
+    ensures grown { length out.new.bytes ≤ length out.old.bytes + MAX_REPLY }
+{
+    put(b"{\"implied\":{\"combination\":", out);
+    write_combination(combination, out);
+    put(b",\"question\":", out);
+    question.write(out);
+    put(b",\"verdict\":", out);
+    put(quoted_side(verdict).as_bytes(), out);
+    put(b"}}\n", out);
+}
+
+fn write_combination(combination: &Combination, out: &mut Text)
+    requires { length out.old.bytes + 2500 ≤ out.old.room }
+    ensures bytes { out.new.bytes ≡ out.old.bytes ++ compact_text (combination_json combination.now) }
+    ensures room { out.new.room ≡ out.old.room }
+    ensures grown { length out.new.bytes ≤ length out.old.bytes + 2500 }
+{
+    put(b"{\"answers\":", out);
+    write_array(combination.answers.as_slice(), out);
+    put(b",\"increments\":", out);
+    write_array(combination.increments.as_slice(), out);
+    put(b",\"scale\":", out);
+    combination.scale.write(out);
+    put(b"}", out);
+}
+
+/// The word of a side as a string.
+fn quoted_side(side: Side) -> &'static str
+    ensures value { result.now ≡ quoted (side_word side) }
+    ensures short { length result.now ≤ 7 }
+{
+    match side {
+        Side::Left => "\"left\"",
+        Side::Right => "\"right\"",
+        Side::Equal => "\"equal\"",
+    }
+}
+
+fn write_values(reply: &ValuesReply, model: &Model, out: &mut Text)
+    requires vector { HasVector model.now.levels reply.now }
+    requires room { length out.old.bytes + MAX_REPLY ≤ out.old.room }
+    ensures bytes { out.new.bytes ≡ out.old.bytes ++ line_of (values_json model.now.levels reply.now) }
+    ensures room { out.new.room ≡ out.old.room }
+    ensures grown { length out.new.bytes ≤ length out.old.bytes + MAX_REPLY }
+{
+    match reply {
+        ValuesReply::Values { vector, .. } => write_vector(vector, model, out),
+        ValuesReply::Incomplete { pair, .. } => write_incomplete(pair, out),
+    }
+}
+
+fn write_vector(vector: &Vector, model: &Model, out: &mut Text)
+    requires vector { IsValueVector model.now.levels vector.now }
+    requires room { length out.old.bytes + MAX_REPLY ≤ out.old.room }
+    ensures bytes { out.new.bytes ≡ out.old.bytes ++ line_of (named (codes "values") (vector_json model.now.levels vector.now)) }
+    ensures room { out.new.room ≡ out.old.room }
+    ensures grown { length out.new.bytes ≤ length out.old.bytes + MAX_REPLY }
+{
+    put(b"{\"values\":{\"levels\":", out);
+    write_level_values(vector, model, out);
+    put(b",\"vector\":", out);
+    write_array(vector.as_slice(), out);
+    put(b",\"weights\":", out);
+    write_array(shares(model, vector).as_slice(), out);
+    put(b"}}\n", out);
+}
+
+fn write_incomplete(pair: &Pair, out: &mut Text)
+    requires { length out.old.bytes + MAX_REPLY ≤ out.old.room }
+    ensures bytes { out.new.bytes ≡ out.old.bytes ++ line_of (incomplete_json pair.now) }
+    ensures room { out.new.room ≡ out.old.room }
+    ensures grown { length out.new.bytes ≤ length out.old.bytes + MAX_REPLY }
+{
+    put(b"{\"incomplete\":{\"left\":", out);
+    write_array(pair.left.as_slice(), out);
+    put(b",\"right\":", out);
+    write_array(pair.right.as_slice(), out);
+    put(b"}}\n", out);
+}
+
+/// Writes the values of all levels, an array for each criterion.
+fn write_level_values(vector: &Vector, model: &Model, out: &mut Text)
+    requires vector { IsValueVector model.now.levels vector.now }
+    requires room { length out.old.bytes + 2500 ≤ out.old.room }
+    ensures bytes { out.new.bytes ≡ out.old.bytes ++ compact_text (level_values_json model.now.levels vector.now) }
+    ensures room { out.new.room ≡ out.old.room }
+    ensures grown { length out.new.bytes ≤ length out.old.bytes + 2500 }
+{
+    put(b"[", out);
+    for place in 0..model.criteria() {
+        separate(place > 0, out);
+        write_values_of(vector, model, place + 1, out);
+    }
+    put(b"]", out);
+}
+
+/// Writes the values of a criterion's levels.
+fn write_values_of(vector: &Vector, model: &Model, criterion: u8, out: &mut Text)
+    requires vector { IsValueVector model.now.levels vector.now }
+    requires low { 1 ≤ criterion }
+    requires high { criterion ≤ length model.now.levels }
+    requires room { length out.old.bytes + 43 * slice_index model.now.levels (criterion - 1) + 2 ≤ out.old.room }
+    ensures bytes { out.new.bytes ≡ out.old.bytes ++ compact_text (array_of certificate (level_values model.now.levels vector.now criterion)) }
+    ensures room { out.new.room ≡ out.old.room }
+    ensures grown { length out.new.bytes ≤ length out.old.bytes + 43 * slice_index model.now.levels (criterion - 1) + 2 }
+{
+    let count = model.levels(criterion);
+    let mut values = [0; MAX_LEVEL as usize];
+    for place in 0..count {
+        values[usize::from(place)] = level_value(model, vector, criterion, place + 1);
+    }
+    write_array(&values[..usize::from(count)], out);
+}
+
+fn write_withdraw(reply: WithdrawReply, out: &mut Text)
+    requires { length out.old.bytes + MAX_REPLY ≤ out.old.room }
+    ensures bytes { out.new.bytes ≡ out.old.bytes ++ line_of (withdraw_json reply) }
+    ensures room { out.new.room ≡ out.old.room }
+    ensures grown { length out.new.bytes ≤ length out.old.bytes + MAX_REPLY }
+{
+    match reply {
+        WithdrawReply::Withdrawn {
+            answer,
+            question,
+            ..
+        } => write_withdrawn(answer, question, out),
+        WithdrawReply::Nothing { .. } => put(b"{\"nothing\":true}\n", out),
+        WithdrawReply::Spent { .. } => put(b"{\"spent\":true}\n", out),
+    }
+}
+
+fn write_withdrawn(answer: u32, question: u32, out: &mut Text)
+    requires { length out.old.bytes + MAX_REPLY ≤ out.old.room }
+    ensures bytes { out.new.bytes ≡ out.old.bytes ++ line_of (withdrawn_json answer question) }
+    ensures room { out.new.room ≡ out.old.room }
+    ensures grown { length out.new.bytes ≤ length out.old.bytes + MAX_REPLY }
+{
+    put(b"{\"withdrawn\":{\"answer\":", out);
+    answer.write(out);
+    put(b",\"question\":", out);
+    question.write(out);
+    put(b"}}\n", out);
+}
+
+fn write_refused(word: Word, out: &mut Text)
+    requires { length out.old.bytes + MAX_REPLY ≤ out.old.room }
+    ensures bytes { out.new.bytes ≡ out.old.bytes ++ line_of (refused_json word) }
+    ensures room { out.new.room ≡ out.old.room }
+    ensures grown { length out.new.bytes ≤ length out.old.bytes + MAX_REPLY }
+{
+    put(b"{\"refused\":\"", out);
+    put(word_name(word).as_bytes(), out);
+    put(b"\"}\n", out);
+}
+
+/// The word of a refusal.
+fn word_name(word: Word) -> &'static str
+    ensures value { result.now ≡ word_text word }
+    ensures short { length result.now ≤ 8 }
+{
+    match word {
+        Word::Message => "message",
+        Word::Hello => "hello",
+        Word::Name => "name",
+        Word::Code => "code",
+        Word::Desk => "desk",
+        Word::Line => "line",
+        Word::Messages => "messages",
+    }
+}
+
+#[cfg(test)]
+mod tests;
