@@ -18,7 +18,7 @@ pub(crate) fn read_json(alloc: Global, line: &[u8]) -> Result<Option<Value>, NoM
     }
 }
 
-/// The member of this name, in an object with so many members.
+/// The member of this name, of an object with this number of members.
 pub(crate) fn member<'v>(value: &'v Value, count: usize, name: &str) -> Option<&'v Value>
     ensures { option_map (λ v. view v.now) result ≡ member_at count name.now (view value.now) }
 {
@@ -29,14 +29,14 @@ pub(crate) fn member<'v>(value: &'v Value, count: usize, name: &str) -> Option<&
     value.get(name)
 }
 
-/// The text that is the member of this name, in an object with so many members.
+/// The text that is the member of this name, of an object with this number of members.
 pub(crate) fn text_member<'v>(value: &'v Value, count: usize, name: &str) -> Option<&'v str>
     ensures { option_map (λ s. s.now) result ≡ text_at count name.now (view value.now) }
 {
     member(value, count, name)?.as_str()
 }
 
-/// The whole number that is the member of this name, in an object with so many members.
+/// The whole number that is the member of this name, of an object with this number of members.
 pub(crate) fn whole_member(value: &Value, count: usize, name: &str) -> Option<u64>
     ensures { result ≡ whole_at count name.now (view value.now) }
 {
