@@ -16,7 +16,7 @@ pub record Pooled : Type 0 where
 abbrev pub new_mark : Mark
 new_mark = record { ranked = false; asked = false; given = None }
 
--- so many such classes, without vectors
+-- that number of such classes, without vectors
 abbrev pub new_pool : ℕ → Pooled
 new_pool count = record { marks = replicate count new_mark; kept = replicate count None }
 
@@ -47,7 +47,7 @@ is_wanted (Job version) = is_job version
 abbrev pub first_place : (Mark → Bool) → List Mark → Option ℕ
 first_place test marks = option_map (λ before. before + 1) (position test marks)
 
--- the place after so many marks, or none
+-- the place after that number of marks, or none
 abbrev pub place_at : List Mark → ℕ → Option ℕ
 place_at marks before = if nat_lt before (length marks) then Some (before + 1) else None
 
@@ -93,7 +93,7 @@ abbrev pub met_of : Option Kept → ℕ
 met_of None = 0
 met_of (Some kept) = kept.met
 
--- at most so many
+-- at most that number
 abbrev pub cut_kept : ℕ → Option Kept → Option Kept
 cut_kept met None = None
 cut_kept met (Some kept) = Some (record kept { met = min kept.met met })
