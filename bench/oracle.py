@@ -104,6 +104,23 @@ class Model:
         winner, loser = pair[::-1] if side == "right" else pair
         return [(winner[c] > step) - (loser[c] > step) for c, step in self.increments]
 
+    def meets(self, vector, answers):
+        worths = [(dot(vector, self.gain(pair, side)), side) for pair, side in answers]
+        return all(worth == 0 if side == "equal" else worth > 0 for worth, side in worths)
+
+    def prove(self, answers, pair, verdict, scale, weights, cites):
+        want(scale >= 1, "scale")
+        want(all(weight >= 0 for weight in weights), "increment")
+        want(all(number <= len(answers) for number, _ in cites), "cite")
+        strict = [weight for number, weight in cites if answers[number - 1][1] != "equal"]
+        want(all(weight >= 0 for weight in strict), "weight")
+        sums = list(weights)
+        for number, weight in cites:
+            sums = [s + weight * g for s, g in zip(sums, self.gain(*answers[number - 1]))]
+        want(sums == [scale * g for g in self.gain(pair, verdict)], "sum")
+        positive = any(weight > 0 for weight in (*weights, *strict))
+        want(positive == (verdict != "equal"), "strict")
+
     def fields(self):
         pair = listed(listed(whole(0, 25), len(self.levels)), 2, "/")
         vector = listed(whole(1, BOUND - 1), len(self.increments))
@@ -157,27 +174,10 @@ class File:
         want(pair in self.model.places, "class")
         return self.model.places[pair]
 
-    def meets(self, vector, answers):
-        worths = [(dot(vector, self.model.gain(pair, side)), side) for pair, side in answers]
-        return all(worth == 0 if side == "equal" else worth > 0 for worth, side in worths)
-
     def opens(self, pair, plus, minus):
         row = self.model.gain(pair, "left")
-        both = self.meets(plus, self.committed()) and self.meets(minus, self.committed())
+        both = self.model.meets(plus, self.committed()) and self.model.meets(minus, self.committed())
         return both and dot(plus, row) > 0 > dot(minus, row)
-
-    def prove(self, answers, pair, verdict, scale, weights, cites):
-        want(scale >= 1, "scale")
-        want(all(weight >= 0 for weight in weights), "increment")
-        want(all(number <= len(answers) for number, _ in cites), "cite")
-        strict = [weight for number, weight in cites if answers[number - 1][1] != "equal"]
-        want(all(weight >= 0 for weight in strict), "weight")
-        sums = list(weights)
-        for number, weight in cites:
-            sums = [s + weight * g for s, g in zip(sums, self.model.gain(*answers[number - 1]))]
-        want(sums == [scale * g for g in self.model.gain(pair, verdict)], "sum")
-        positive = any(weight > 0 for weight in (*weights, *strict))
-        want(positive == (verdict != "equal"), "strict")
 
     # The lines, in which the form is right.
     def answer(self, pair, side):
@@ -187,9 +187,9 @@ class File:
     def eliminate(self, worker, pair, verdict, scale, weights, cites):
         place = self.place(pair)
         if self.heading == "paprika claims 1":
-            return self.prove(self.answers, pair, verdict, scale, weights, cites)
+            return self.model.prove(self.answers, pair, verdict, scale, weights, cites)
         want(place not in self.ranked(), "ranked")
-        self.prove(self.committed(), pair, verdict, scale, weights, cites)
+        self.model.prove(self.committed(), pair, verdict, scale, weights, cites)
         self.standing.append(("eliminate", place, [number for number, _ in cites]))
 
     def issue(self, desk, pair, plus, minus):
@@ -207,7 +207,7 @@ class File:
         pair = self.model.classes[place - 1]
         want(place not in self.eliminated(), "ranked")
         want(self.opens(pair, plus, minus), "vectors")
-        want(self.meets(point, self.committed() + [(pair, side)]), "point")
+        want(self.model.meets(point, self.committed() + [(pair, side)]), "point")
         self.standing.append(("commit", question, side))
 
     def close(self, desk, question):
