@@ -11,6 +11,7 @@ import itertools
 import json
 import math
 import sys
+from fractions import Fraction
 
 from oracle import MOST_LINES, File, Wrong, certificate, cites, dot, want
 
@@ -26,7 +27,11 @@ def reduced(vector):
     return [number // divisor for number in vector]
 
 
-def column(inverse, generator):
+def turned(row):
+    return [-number for number in row]
+
+
+def product(inverse, generator):
     return [sum(row[place] * number for place, number in generator) for row in inverse]
 
 
@@ -38,32 +43,28 @@ def pivoted(rows, scale, at, by):
 
 
 def separated(generators, target):
-    """None where the target is a sum of generators with weights of at least 0, and else a direction whose product with
-    each of them is at least 0 and with the target negative.
+    """A direction whose product with each generator is at least 0 and with the target negative; or None and the places
+    of generators of which the target is a sum with weights of at least 0.
 
     The simplex method with artificial columns, by Bland's rule. The rows are an integer inverse of the basis over a
     scale, each with its constant at the end.
     """
     signs = [-1 if number < 0 else 1 for number in target]
-    turned = [[(at, number * signs[at]) for at, number in enumerate(row) if number] for row in generators]
+    columns = [[(at, number * signs[at]) for at, number in enumerate(row) if number] for row in generators]
     rows = [[int(at == row) for at in range(len(target))] + [abs(target[row])] for row in range(len(target))]
     basis, scale = [-1] * len(target), 1
     while True:
         artificial = [row for row, kind in zip(rows, basis) if kind < 0]
         prices = [sum(numbers) for numbers in zip(*artificial)]
         if not artificial or prices[-1] == 0:
-            return None
-        gains = (sum(prices[at] * number for at, number in row) for row in turned)
+            return None, [kind for kind, row in zip(basis, rows) if kind >= 0 and row[-1]]
+        gains = (sum(prices[at] * number for at, number in row) for row in columns)
         entering = next((kind for kind, gain in enumerate(gains) if gain > 0), None)
         if entering is None:
-            return [-price * sign for price, sign in zip(prices, signs)]
-        by = column(rows, turned[entering])
-        leaving = None
-        for at in (at for at, number in enumerate(by) if number > 0):
-            if leaving is not None:
-                less = rows[at][-1] * by[leaving] - rows[leaving][-1] * by[at]
-            if leaving is None or less < 0 or (less == 0 and basis[at] < basis[leaving]):
-                leaving = at
+            return [-price * sign for price, sign in zip(prices, signs)], None
+        by = product(rows, columns[entering])
+        falling = [at for at, number in enumerate(by) if number > 0]
+        leaving = min(falling, key=lambda at: (Fraction(rows[at][-1], by[at]), basis[at]))
         rows, scale, basis[leaving] = pivoted(rows, scale, leaving, by), by[leaving], entering
 
 
@@ -78,41 +79,44 @@ class Cone:
         self.known = [[1] * len(model.increments)]  # some vectors that meet the answers
 
     def generators(self):
-        turned = ([-number for number in row] for row, (_, side) in zip(self.rows, self.answers) if side == "equal")
-        return [*self.rows, *turned, *self.units]
+        for number, (row, (_, side)) in enumerate(zip(self.rows, self.answers), 1):
+            yield number, row
+            if side == "equal":
+                yield number, turned(row)
+        yield from ((0, unit) for unit in self.units)
 
     def toward(self, row):
-        """A vector that meets the answers and ranks the row's right side higher, or None."""
+        """A vector that meets the answers and ranks the row's right side higher; or None and by how many answers."""
         for vector in self.known:
             if dot(vector, row) < 0:
-                return vector
-        if any(all(o <= n for o, n in zip(other, row)) for other in self.rows):
-            return None
-        direction = separated(self.generators(), row)
+                return vector, None
+        for number, other in enumerate(self.rows, 1):
+            if all(o <= n for o, n in zip(other, row)):
+                return None, number
+        numbers, rows = zip(*self.generators())
+        direction, used = separated(rows, row)
         if direction is None:
-            return None
+            return None, max(numbers[place] for place in used)
         far = dot(self.known[0], row) // -dot(direction, row) + 1
         self.known.append(reduced([v + far * d for v, d in zip(self.known[0], direction)]))
-        return self.known[-1]
+        return self.known[-1], None
 
     def verdict(self, pair):
-        """How the answers rank the pair, or `open`."""
-        row = self.model.gain(pair, "left")
-        worth = dot(self.known[0], row)
-        if worth == 0:
-            return "open" if self.toward(row) else "equal"
-        side = "left" if worth > 0 else "right"
-        return "open" if self.toward(self.model.gain(pair, side)) else side
+        """How the answers rank the pair and how many of them suffice for it; or `open`."""
+        worth = dot(self.known[0], self.model.gain(pair, "left"))
+        side = "equal" if worth == 0 else "left" if worth > 0 else "right"
+        vector, suffice = self.toward(self.model.gain(pair, side))
+        return ("open", None) if vector else (side, suffice)
 
     def add(self, pair, side):
         """Adds an answer to an open pair."""
         row = self.model.gain(pair, side)
-        other = self.toward(row), self.toward([-number for number in row])
-        low, high = -dot(other[0], row), dot(other[1], row)
-        between = reduced([v * high + w * low for v, w in zip(*other)])
+        (less, _), (more, _) = self.toward(row), self.toward(turned(row))
+        low, high = -dot(less, row), dot(more, row)
+        between = reduced([v * high + w * low for v, w in zip(less, more)])
         self.answers.append((pair, side))
         self.rows.append(row)
-        found = [*self.known, between, other[1]]
+        found = [*self.known, between, more]
         self.known = [vector for vector in found if self.model.meets(vector, [(pair, side)])]
 
     def cut(self, count):
@@ -128,15 +132,15 @@ class Survey:
         self.given = []  # the question of each answer
         self.closed = {}  # for each closed question, how many answers there were
         self.withdrawals = 0
-        self.ranked = {}  # for each class that is known to be ranked, by how many answers and how
+        self.ranked = {}  # for each class that is known to be ranked, how, and how many answers suffice for it
 
     def verdict(self, place):
         if place not in self.ranked:
-            side = self.cone.verdict(self.model.classes[place - 1])
+            side, suffice = self.cone.verdict(self.model.classes[place - 1])
             if side == "open":
                 return side
-            self.ranked[place] = len(self.given), side
-        return self.ranked[place][1]
+            self.ranked[place] = side, suffice
+        return self.ranked[place][0]
 
     def first_open(self, among):
         return next((place for place in among if self.verdict(place) == "open"), None)
@@ -147,7 +151,7 @@ class Survey:
     def is_open(self, question):
         return question not in self.given and question not in self.closed
 
-    # The reply to each request, as a value; None where it has a certificate, which is tested.
+    # The reply to each request. What it has of certificates is tested and taken from the reply that was given.
     def next(self, _):
         some = self.first_open(self.places())
         if some is None:
@@ -207,7 +211,7 @@ class Survey:
         count, question = len(self.given), self.given.pop()
         self.cone.cut(count - 1)
         self.closed = {q: answers for q, answers in self.closed.items() if answers < count}
-        self.ranked = {place: known for place, known in self.ranked.items() if known[0] < count}
+        self.ranked = {place: known for place, known in self.ranked.items() if known[1] < count}
         self.withdrawals = more
         return {"withdrawn": {"answer": count, "question": question}}
 
