@@ -40,7 +40,7 @@ use Rattle.result_file.specs.declared.verdicts.Part.{Part}
 use Rattle.result_file.specs.declared.verdicts.Part.TheVariants.{Form, Model, Limit, Class, Scale, Increment, Cite, Weight, Sum, Strict}
 use Rattle.result_file.specs.declared.verdicts.Checked.{Checked}
 use Rattle.result_file.specs.declared.verdicts.Checked.TheVariants.{Valid, ValidComplete, Invalid, Unfinished}
-use Rattle.result_file.specs.Checked.{Stage, blank, headed, begun, ended, Says, Fails, IsChecked}
+use Rattle.result_file.specs.Checked.{Stage, blank, headed, begun, ended, Says, Fails, NextFails, IsChecked}
 use Rattle.result_file.specs.Claims.{Claim, answered, eliminated, pair_of, answers_of}
 use Rattle.result_file.specs.Contents.{Content, of_claims, of_events, lines_of, IsRightContent}
 use Rattle.result_file.specs.Entries.{HasEntryForm}
@@ -279,18 +279,23 @@ record HasCome (text : List ℕ) (lines : List (List ℕ)) (stage : Stage) (rest
   split : Splits text lines rest
   says : Says lines stage
 
-too_long : (text : List ℕ) (lines : List (List ℕ)) (stage : Stage) (rest first : List ℕ) → HasCome text lines stage rest → first_line rest ≡ first
-    → MAX_LINE < length first → HasNone text → ⊥
-too_long text lines stage rest first come is long none =
-    none (Invalid (length lines + 1) Form) tt (record {
+-- what comes next fails
+next_wrong : (text : List ℕ) (lines : List (List ℕ)) (stage : Stage) (rest : List ℕ) (part : Part) → HasCome text lines stage rest
+    → NextFails stage rest part → HasNone text → ⊥
+next_wrong text lines stage rest part come wrong none =
+    none (Invalid (length lines + 1) part) tt (record {
       lines = lines;
       rest = rest;
       stage = stage;
       split = come.split;
       says = come.says;
       number = refl;
-      next = inl (rw is long, refl);
+      next = wrong;
     })
+
+too_long : (text : List ℕ) (lines : List (List ℕ)) (stage : Stage) (rest first : List ℕ) → HasCome text lines stage rest → first_line rest ≡ first
+    → MAX_LINE < length first → HasNone text → ⊥
+too_long text lines stage rest first come is long none = next_wrong text lines stage rest Form come (inl (rw is long, refl)) none
 
 -- the next line, where each shorter rest has some verdict
 line_next : (text : List ℕ) (lines : List (List ℕ)) (stage : Stage) (rest line after : List ℕ) → HasNoLineEnd line → rest ≡ line ++ line_end ∷ after
@@ -306,21 +311,13 @@ line_next text lines stage rest line after unbroken is later come none = elim (c
       };
       says = says;
     });
-    fails = λ part h. none (Invalid (length lines + 1) part) tt (record {
-      lines = lines;
-      rest = rest;
-      stage = stage;
-      split = come.split;
-      says = come.says;
-      number = refl;
-      next = inr (inr (record {
-        line = line;
-        after = after;
-        split = record { whole = is ∙ sym (unlines-push [] line after); unbroken = one_unbroken line unbroken };
-        fits = fits;
-        fails = h;
-      }));
-    });
+    fails = λ part h. next_wrong text lines stage rest part come (inr (inr (record {
+      line = line;
+      after = after;
+      split = record { whole = is ∙ sym (unlines-push [] line after); unbroken = one_unbroken line unbroken };
+      fits = fits;
+      fails = h;
+    }))) none;
   })
 ]
 

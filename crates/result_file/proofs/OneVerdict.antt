@@ -10,7 +10,7 @@ use Rattle.result_file.specs.declared.verdicts.Checked.TheVariants.{Valid, Valid
 use Rattle.result_file.specs.declared.verdicts.Part.{Part}
 use Rattle.result_file.specs.declared.verdicts.Part.TheVariants.{Form}
 use Rattle.result_file.specs.Contents.{Content, of_claims, of_events, lines_of, kind_of, criteria_of, IsRightContent, IsCompleteContent}
-use Rattle.result_file.specs.Checked.{Stage, blank, headed, begun, ended, Says, Fails, HasEnded, NextLineFails, NextFails, LeavesOpen, IsCut, IsFileOf, IsChecked}
+use Rattle.result_file.specs.Checked.{Stage, blank, headed, begun, ended, Says, Fails, HasEnded, NextLineFails, NextFails, LeavesOpen, IsCut, ComesTo, IsFileOf, IsChecked}
 use Rattle.result_file.specs.Events.{as_entry}
 use Rattle.result_file.specs.Laws.{OneContent, IsOnText, OneVerdict}
 use Rattle.result_file.specs.Texts.{heading, end_line, model_line}
@@ -209,6 +209,21 @@ record EndsAt (text : List ℕ) (verdict : Checked) : Type 0 where
   place : StopsAt text
   ends : Ends verdict (length place.lines + 1) place.stage place.rest
 
+-- right lines that come to an end stop there
+ends_there : (text : List ℕ) (line : ℕ) (verdict : Checked) (P : Stage → List ℕ → Type 0) → (h : ComesTo text line P)
+    → Ends verdict (length h.lines + 1) h.stage h.rest → EndsAt text verdict
+ends_there text line verdict P h ends = record {
+  place = record {
+    lines = h.lines;
+    rest = h.rest;
+    stage = h.stage;
+    split = h.split;
+    says = h.says;
+    stops = ends_stops verdict (length h.lines + 1) h.stage h.rest ends;
+  };
+  ends = ends;
+}
+
 ends_at : (text : List ℕ) (verdict : Checked) → IsOnText verdict → IsChecked text verdict → EndsAt text verdict
 ends_at text Valid on h =
     let at : IsWholeAt text (λ content. ¬ IsCompleteContent content) = file_whole text h.0 (λ content. ¬ IsCompleteContent content) h.1 h.2 in
@@ -216,28 +231,8 @@ ends_at text Valid on h =
 ends_at text ValidComplete on h =
     let at : IsWholeAt text IsCompleteContent = file_whole text h.0 IsCompleteContent h.1 h.2 in
     record { place = at.place; ends = at.whole }
-ends_at text (Invalid line part) on h = record {
-  place = record {
-    lines = h.lines;
-    rest = h.rest;
-    stage = h.stage;
-    split = h.split;
-    says = h.says;
-    stops = next_stops h.stage h.rest part h.next;
-  };
-  ends = (h.number, h.next);
-}
-ends_at text (Unfinished line) on h = record {
-  place = record {
-    lines = h.lines;
-    rest = h.rest;
-    stage = h.stage;
-    split = h.split;
-    says = h.says;
-    stops = λ next after fine unbroken. no_line_end h.rest next after h.next.0;
-  };
-  ends = (h.number, h.next);
-}
+ends_at text (Invalid line part) on h = ends_there text line (Invalid line part) (λ stage rest. NextFails stage rest part) h (h.number, h.next)
+ends_at text (Unfinished line) on h = ends_there text line (Unfinished line) IsCut h (h.number, h.next)
 ends_at text ReadFault on h = absurd on
 ends_at text NoMemory on h = absurd on
 

@@ -21,7 +21,7 @@ use Rattle.result_file.specs.declared.verdicts.Part.TheVariants.{Form}
 use Rattle.result_file.specs.declared.verdicts.Checked.{Checked}
 use Rattle.result_file.specs.declared.verdicts.Checked.TheVariants.{Valid, ValidComplete, Invalid, Unfinished, ReadFault, NoMemory}
 use Rattle.result_file.specs.Bodies.{IsOfWhole}
-use Rattle.result_file.specs.Checked.{Stage, blank, headed, begun, ended, Says, Fails, IsFileOf, IsChecked, IsToldChecked}
+use Rattle.result_file.specs.Checked.{Stage, blank, headed, begun, ended, Says, Fails, NextFails, ComesTo, IsFileOf, IsChecked, IsToldChecked}
 use Rattle.result_file.specs.Contents.{Content, of_claims, of_events, lines_of, body_of, IsRightContent}
 use Rattle.result_file.specs.Events.{event_line}
 use Rattle.result_file.specs.Progress.{IsAtStage, GoesOn, EndsWhole, EndsAs, HasCome}
@@ -41,6 +41,19 @@ told_now text (Some rest) front bytes e is = (rest, refl, cc)
 pub one_unbroken : (line : List ℕ) → HasNoLineEnd line → All HasNoLineEnd (line ∷ [])
 one_unbroken line h = All-cons HasNoLineEnd line [] h (All-nil HasNoLineEnd)
 
+-- lines that have come, and what is next
+come_to : (text before : Option (List ℕ)) (bytes rest : List ℕ) (number : ℕ) (progress : Progress) (P : Stage → List ℕ → Type 0)
+    → (h : HasCome text before number progress) → bytes ≡ unlines h.lines ++ rest → P h.stage rest → ComesTo bytes number P
+come_to text before bytes rest number progress P h whole next = record {
+  lines = h.lines;
+  rest = rest;
+  stage = h.stage;
+  split = record { whole = whole; unbroken = h.unbroken };
+  says = h.says;
+  number = h.number;
+  next = next;
+}
+
 -- a whole line that fails
 pub line_checked : (text before now : Option (List ℕ)) (number : ℕ) (progress : Progress) (new : LinesView) (part : Part)
     → HasCome text before number progress → GivesLine new before now → length new.line ≤ 4096
@@ -49,21 +62,13 @@ line_checked text before now number progress new part h g short fails =
     for_told text (λ bytes. IsChecked bytes (Invalid number part)) (λ bytes is.
     let t = told_now text before (unlines h.lines) bytes h.told is in
     let u = told_now before now (new.line ++ line_end ∷ []) t.0 g.told t.1 in
-    record {
-      lines = h.lines;
-      rest = t.0;
-      stage = h.stage;
-      split = record { whole = t.2; unbroken = h.unbroken };
-      says = h.says;
-      number = h.number;
-      next = inr (inr (record {
-        line = new.line;
-        after = u.0;
-        split = record { whole = u.2; unbroken = one_unbroken new.line g.unbroken };
-        fits = short;
-        fails = fails h.stage h.stands;
-      }));
-    })
+    come_to text before bytes t.0 number progress (λ stage rest. NextFails stage rest part) h t.2 (inr (inr (record {
+      line = new.line;
+      after = u.0;
+      split = record { whole = u.2; unbroken = one_unbroken new.line g.unbroken };
+      fits = short;
+      fails = fails h.stage h.stands;
+    }))))
 
 -- a whole line that is right
 pub line_come : (text before now : Option (List ℕ)) (number : ℕ) (progress next : Progress) (new : LinesView) → HasCome text before number progress
@@ -165,15 +170,7 @@ long_checked text before now left number progress new h g ahead longest =
     let t = told_now text before (unlines h.lines) bytes h.told is in
     let u = told_now before left new.kept t.0 (sym g.same ∙ ahead) t.1 in
     let long : 4096 < length (first_line (new.kept ++ u.0)) = first_line-long new.kept u.0 4096 (omega (arith, g.too_many)) (rw longest at g.unbroken) in
-    record {
-      lines = h.lines;
-      rest = t.0;
-      stage = h.stage;
-      split = record { whole = t.2; unbroken = h.unbroken };
-      says = h.says;
-      number = h.number;
-      next = inl (rw u.2 long, refl);
-    })
+    come_to text before bytes t.0 number progress (λ stage rest. NextFails stage rest Form) h t.2 (inl (rw u.2 long, refl)))
 
 -- ---- the loop over the lines
 
