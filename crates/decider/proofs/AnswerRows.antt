@@ -1,7 +1,7 @@
 -- Which vectors meet the rows of rankings and of answers.
-use Rattle.std.proofs.Common.{◌≡◌, ℕ, List, [], ◌∷◌, ◌++◌, ℤ, pos, ◌-ℤ◌, ◌*ℤ◌, ◌≤ℤ◌, sym, ap, subst, ◌∙◌, arith, append-nil}
+use Rattle.std.proofs.Common.{◌≡◌, ◌<◌, ℕ, length, get_or, List, [], ◌∷◌, ◌++◌, ℤ, pos, ◌-ℤ◌, ◌*ℤ◌, ◌≤ℤ◌, sym, ap, subst, ◌∙◌, arith, append-nil}
 use Rattle.std.specs.Prelude.{All, Some, slice_get}
-use Rattle.std.proofs.lemmas.Option.{get_or_from_slice_get, slice_get_within}
+use Rattle.std.proofs.lemmas.Option.{get_or_from_slice_get, slice_get_within, slice_get-get_or}
 use Rattle.std.proofs.lemmas.Int.{ints}
 use Rattle.std.proofs.lemmas.Grind.{flat_map-append}
 use Rattle.std.proofs.lemmas.List.Elements.{All-nil, All-cons, All-head, All-tail, All-append, All-push, All-weaker, All-from_get_or}
@@ -42,6 +42,11 @@ All-first P (x ∷ xs) ys all = All-cons P x xs (All-head P x (xs ++ ys) all) (A
 pub All-later : {X : Type 0} (P : X → Type 0) (xs ys : List X) → All P (xs ++ ys) → All P ys
 All-later P [] ys all = all
 All-later P (x ∷ xs) ys all = All-later P xs ys (All-tail P x (xs ++ ys) all)
+
+-- an answer that is read from the list
+pub listed_at : (answers listed : List Answer) (place : ℕ) (read default : Answer) → listed ≡ answers → place < length answers → read ≡ get_or listed place default → slice_get answers place ≡ Some read
+listed_at answers listed place read default same lt is =
+    slice_get-get_or answers place default lt ∙ ap (λ (l : List Answer). Some (get_or l place default)) (sym same) ∙ ap (λ (a : Answer). Some a) (sym is)
 
 pub All-found : {X : Type 0} (P : X → Type 0) (xs : List X) (k : ℕ) (x : X) → All P xs → slice_get xs k ≡ Some x → P x
 All-found P xs k x all is = subst P (get_or_from_slice_get xs k x x is) (all k x (slice_get_within xs k x is))

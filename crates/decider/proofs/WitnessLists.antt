@@ -59,6 +59,10 @@ witness_at levels known kept place read witness all lt read_is found =
 pub meets_known : (levels : List ℕ) (known answers : List Answer) (vector : List ℤ) → BeginsWith answers known → MeetsAll levels answers vector → All (Meets levels vector) known
 meets_known levels known answers vector begins meets = subst (All (Meets levels vector)) begins (All-take (Meets levels vector) (length known) answers meets.each)
 
+-- the same by the level counts of which the answers are known
+pub confirmed : (levels own : List ℕ) (known answers : List Answer) (vector : List ℤ) → own ≡ levels → BeginsWith answers known → MeetsAll levels answers vector → All (Meets own vector) known
+confirmed levels own known answers vector same begins meets = subst (λ (l : List ℕ). All (Meets l vector) known) (sym same) (meets_known levels known answers vector begins meets)
+
 -- one that meets all the known answers is known to do so
 pub witness_all : (levels : List ℕ) (known : List Answer) (witness : Witness) → IsValueVector levels witness.vector → IsCoprime witness.vector → All (Meets levels witness.vector) known
     → witness.met ≡ length known

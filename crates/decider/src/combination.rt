@@ -44,11 +44,12 @@ fn cited(answers: &Answers, rows: &[RowWeight]) -> Cites
     requires within { All (λ item. item.row ≤ rows_in answers.now.answers) rows.now }
     ensures { CitesRows answers.now.answers rows.now result }
 {
+    let listed = answers.as_slice();
     let mut list = CiteList::none();
     let mut taken = 0;
     let mut row = 1;
     for at in 0..answers.len() {
-        let side = answers.answer(at + 1).side;
+        let side = listed[at as usize].side;
         let (weight, more) = ranking_weight(rows, taken, row, side);
         list.add(at + 1, weight);
         taken += more;

@@ -30,10 +30,11 @@ pub fn implied_by_one(
     ensures few { IfSome result (λ combination. HasFewWeights (Implied verdict combination)) }
     ensures none { IfNone result (All (λ answer. ¬ Suffices model.now.levels answer pair.now verdict) answers.now.answers) }
 {
+    let listed = answers.as_slice();
     for at in 0..answers.len() {
-        let answer = answers.answer(at + 1);
-        if suffices(model, &answer, pair, verdict) {
-            return Some(combination_with(model, at + 1, &answer, pair, verdict));
+        let answer = &listed[at as usize];
+        if suffices(model, answer, pair, verdict) {
+            return Some(combination_with(model, at + 1, answer, pair, verdict));
         }
     }
     None

@@ -103,6 +103,44 @@ impl Witnesses {
         let _missing = self.answers.copy_from(answers);
     }
 
+    /// Where there are more answers than the known ones, drops the vectors that fail one of them: each new answer rules
+    /// out some, and those that are left are all worth a product.
+    fn catch_up(&mut self, model: &Model, answers: &Answers)
+        requires levels { self.old.levels ≡ model.now.levels }
+        requires fit { All (λ answer. IsFit model.now.levels answer.pair) answers.now.answers }
+        ensures { self.new.levels ≡ model.now.levels }
+    {
+        if self.answers.len() < answers.len() {
+            self.follow(model, answers);
+            self.drop_failing(model, answers);
+        }
+    }
+
+    /// Drops the vectors that fail one of the answers, which begin with the known ones.
+    fn drop_failing(&mut self, model: &Model, answers: &Answers)
+        requires levels { self.old.levels ≡ model.now.levels }
+        requires begins { BeginsWith answers.now.answers self.old.answers.answers }
+        requires fit { All (λ answer. IsFit model.now.levels answer.pair) answers.now.answers }
+        ensures { self.new.levels ≡ model.now.levels }
+    {
+        let mut place = 0;
+        'vectors: while place < self.count() {
+            if self.meets_all(model, answers, place) {
+                let _vector = self.confirm(place);
+                place += 1;
+            } else {
+                self.drop_at(place);
+            }
+        }
+    }
+
+    /// How many vectors there are.
+    fn count(&self) -> usize
+        ensures { result ≡ length self.now.kept }
+    {
+        self.kept.len()
+    }
+
     /// The place of the first vector from `from` on by which the row is positive.
     fn first_gaining(&self, row: &Row, from: usize) -> Option<usize>
         requires { length row.now ≡ increments self.now.levels }
@@ -145,6 +183,7 @@ impl Witnesses {
         if !has_same_levels(&self.model, model) {
             return None;
         }
+        self.catch_up(model, answers);
         let gain = model.gain(pair, side);
         if self.first_gaining(&gain, 0).is_none() {
             return None;
@@ -179,7 +218,10 @@ impl Witnesses {
     fn confirm(&mut self, place: usize) -> Vector
         requires within { place < length self.old.kept }
         requires meets { (witness : Witness) → slice_get self.old.kept place ≡ Some witness → All (Meets self.old.levels witness.vector) self.old.answers.answers }
-        ensures { (witness : Witness) → slice_get self.old.kept place ≡ Some witness → result ≡ witness.vector }
+        ensures vector { (witness : Witness) → slice_get self.old.kept place ≡ Some witness → result ≡ witness.vector }
+        ensures levels { self.new.levels ≡ self.old.levels }
+        ensures answers { self.new.answers ≡ self.old.answers }
+        ensures len { length self.new.kept ≡ length self.old.kept }
     {
         let vector = self.kept[place].vector;
         let met = self.answers.len();

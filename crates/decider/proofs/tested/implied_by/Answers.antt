@@ -1,8 +1,5 @@
-use Rattle.std.proofs.Common.{◌≡◌, ◌≤◌, ◌-◌, length, sym, ap, ◌∙◌, arith}
-use Rattle.std.specs.Prelude.{count_by}
+use Rattle.std.proofs.Common.{◌∙◌, arith}
 use Rattle.criteria_model.specs.Worth.{increments}
-use Rattle.simplex.specs.Weights.{is_weight}
-use Rattle.decider.specs.Decisions.{weights_of}
 use Rattle.decider.specs.Combining.{EndsWithTried}
 use Rattle.decider.proofs.Decided.{proved_decision}
 use Rattle.decider.proofs.Verdicts.{few_weights}

@@ -25,8 +25,8 @@ invariant_of-self c =
       c.self.invariant.3,
     )
 
-pub returns : goal.returns
-returns c witness found =
+pub returns-clause-vector : goal.returns-clause-vector
+returns-clause-vector c witness found =
     let kept : c.self.inside.kept.items ≡ c.args.self.now.kept = ap (λ view. view.kept) c.self.view_is in
     ap (λ (w : Witness). w.vector)
     (c.index.ensures ∙ get_or_from_slice_get c.self.inside.kept.items c.args.place witness c.index.result.now

@@ -10,7 +10,7 @@ use Rattle.decider.proofs.witnesses.Witnesses.find.Goals as goal
 pub first_gaining-requires : goal.first_gaining-requires
 first_gaining-requires c =
     ap length c.gain-gain.ensures ∙ length-gain c.args.model.now.levels c.args.pair.now c.args.side c.requires.pair_fits
-    ∙ ap increments (sym (c.has_same_levels.ensures c.if-not-has_same_levels.false) ∙ ap (λ view. view.levels) c.self.view_is)
+    ∙ ap increments (sym c.catch_up.ensures)
 
 pub first_meeting-requires-clause-row : goal.first_meeting-requires-clause-row
 first_meeting-requires-clause-row c = ap length c.gain-gain.ensures ∙ length-gain c.args.model.now.levels c.args.pair.now c.args.side c.requires.pair_fits
