@@ -1,7 +1,8 @@
 ghost use Rattle.std.specs.Prelude.{◌≡◌, IsTrue};
 ghost use Rattle.criteria_model.specs.Worth.{IsValueVector};
 ghost use Rattle.survey_core.specs.Kinds.{is_withdraw};
-ghost use Rattle.survey_core.specs.Legal.{IsEvent};
+ghost use Rattle.survey_core.specs.Legal.{IsEvent, IsPlace};
+ghost use Rattle.survey_state.specs.States.{RankOppositely};
 
 use super::*;
 use criteria_model::Side;
@@ -10,6 +11,7 @@ use std::process::Abort;
 use std::test::Fail;
 use survey_core::Broken;
 use survey_replies::Events;
+use witness_check::meets_from;
 
 fn vector(items: [i8; 3]) -> Vector {
     let [first, second, third] = items;
@@ -143,5 +145,57 @@ fn answer_and_withdrawal(rt: HostRuntime) -> Result<(), Fail> {
     }
     assert!(rt; event_at(&mut state, 3) == Some(withdraw(1)));
     assert!(rt; event_at(&mut state, 5).is_none());
+    Ok(())
+}
+
+/// Whether the class's left side is worth more by the first value vector, and less by the second.
+fn rank_oppositely(state: &State, place: u32, plus: &Vector, minus: &Vector) -> bool
+    requires { IsPlace state.now.listed place }
+    ensures { IsTrue result → RankOppositely state.now.listed place plus.now minus.now }
+{
+    let model = state.core().model();
+    let pair = state.core().class(place);
+    is_values(&model, plus)
+        && is_values(&model, minus)
+        && model.ranking(plus, &pair) == Side::Left
+        && model.ranking(minus, &pair) == Side::Right
+}
+
+/// Keeps vectors of a class.
+fn keep(rt: &impl Abort, state: &mut State, place: u32, plus: Vector, minus: Vector) {
+    let count = state.core().model().class_count();
+    assert!(rt; 1 <= place && place <= count);
+    assert!(rt; rank_oppositely(state, place, &plus, &minus));
+    state.keep(place, plus, minus);
+}
+
+/// Whether each of the vectors that are kept for the class meets the answers that it isn't known to meet.
+fn kept_meet(state: &State, place: u32) -> Option<(bool, bool)> {
+    let model = state.core().model();
+    if place == 0 || place > model.class_count() {
+        return None;
+    }
+    let Kept { plus, minus, met } = state.kept(place)?;
+    let answers = state.core().answers();
+    let plus_meets = meets_from(&model, answers, met, &plus);
+    let minus_meets = meets_from(&model, answers, met, &minus);
+    Some((plus_meets, minus_meets))
+}
+
+/// Vectors that are kept for a class are there after another class is answered; one of them meets the new answer.
+#[test]
+fn kept_vectors(rt: HostRuntime) -> Result<(), Fail> {
+    let model = Model::new(&[2, 2, 2], 3).ok().ok_or("model")?;
+    let mut state = State::new(rt.alloc(), &model)?;
+    keep(&rt, &mut state, 1, vector([2, 1, 1]), vector([1, 2, 1]));
+    for event in [
+        issue(1, [2, 1, 1], [1, 2, 1]),
+        issue(2, [2, 1, 1], [1, 1, 2]),
+        commit(2, Side::Left, [2, 1, 1], [1, 1, 2], [2, 1, 1]),
+    ] {
+        assert_eq!(rt; offer(&rt, &mut state, event)?, Offer::Done);
+    }
+    assert!(rt; kept_meet(&state, 1) == Some((true, false)));
+    assert!(rt; kept_meet(&state, 2).is_none());
     Ok(())
 }
