@@ -1,4 +1,4 @@
-ghost use Rattle.std.specs.Prelude.{◌≡◌, ◌↔◌, ◌-◌, ◌^◌, ◌<◌, ◌≤◌, Some, None, length, slice_get, MatchResult, IsTrue, unsigned_abs};
+ghost use Rattle.std.specs.Prelude.{◌≡◌, ◌↔◌, ◌-◌, ◌*◌, ◌^◌, ◌<◌, ◌≤◌, Some, None, length, slice_get, MatchResult, IsTrue, unsigned_abs};
 ghost use Rattle.criteria_model.specs.declared.pairs.Side.{Side};
 ghost use Rattle.criteria_model.specs.declared.pairs.Side.TheVariants.{Left as LeftSide};
 ghost use Rattle.row_laws.specs.Rows.{minus};
@@ -17,7 +17,7 @@ use crate::faults::ModelFault;
 use crate::levels::{
     all_fit, degree, is_cancelled, is_left_first, is_somewhere_higher, is_undominated,
 };
-use crate::limits::{MAX_CLASSES, MAX_INCREMENTS, MAX_LEVEL};
+use crate::limits::{CERTIFICATE_BOUND, MAX_CLASSES, MAX_INCREMENTS, MAX_LEVEL};
 use crate::pairs::{Dominance, Pair, Side};
 use crate::rows::Row;
 use crate::tuples::Tuple;
@@ -224,7 +224,7 @@ impl Model {
         requires vector_len { length vector.now ≡ increment_count self.now.levels }
         requires alternative_len { length alternative.now ≡ length self.now.levels }
         ensures value { result ≡ worth self.now.levels vector.now alternative.now }
-        ensures range { unsigned_abs result < 2 ^ 101 }
+        ensures range { unsigned_abs result ≤ MAX_INCREMENTS * CERTIFICATE_BOUND }
     {
         let lowest = Tuple::of(&[0; MAX_INCREMENTS][..alternative.len()]);
         vector.dot(&self.difference(alternative, &lowest))

@@ -1,4 +1,4 @@
-ghost use Rattle.std.specs.Prelude.{◌≡◌, ◌-◌, ◌^◌, ◌<◌, ◌≤◌, Some, length, slice_get, unsigned_abs};
+ghost use Rattle.std.specs.Prelude.{◌≡◌, ◌-◌, ◌*◌, ◌<◌, ◌≤◌, Some, length, slice_get, unsigned_abs};
 ghost use Rattle.criteria_model.specs.Lists.{IsVector};
 ghost use Rattle.row_laws.specs.Rows.{dot as sum_of_products};
 
@@ -72,7 +72,7 @@ impl Vector {
     pub fn dot(&self, row: &Row) -> i128
         requires { length row.now ≡ length self.now }
         ensures value { result ≡ sum_of_products self.now row.now }
-        ensures range { unsigned_abs result < 2 ^ 101 }
+        ensures range { unsigned_abs result ≤ MAX_INCREMENTS * CERTIFICATE_BOUND }
     {
         let values = self.as_slice();
         let factors = row.as_slice();

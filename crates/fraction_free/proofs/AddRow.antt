@@ -9,7 +9,8 @@ use Rattle.fraction_free.specs.declared.loaded.LoadedRow.{LoadedRow}
 use Rattle.fraction_free.specs.Arrangement.{IsArrangement, Arranged}
 use Rattle.fraction_free.specs.Changes.{AddsRow, next_count}
 use Rattle.fraction_free.specs.Dictionary.{DictionaryView, IsLoadable, HasSlacks, Satisfies, loaded_at, no_row, slack_of}
-use Rattle.fraction_free.specs.Representation.{row_of, table_row, square_of, view_of, AreMinors, IsRepresentation, CanCombine}
+use Rattle.fraction_free.specs.Representation.{row_of, table_row, square_of, AreMinors, IsRepresentation, CanCombine}
+use Rattle.fraction_free.proofs.Views.{view_with}
 use Rattle.fraction_free.proofs.Table.{table_row-constant, table_row-increment, table_row-slack}
 use Rattle.fraction_free.proofs.Values.{combination_value, slack_value}
 use Rattle.fraction_free.proofs.Kept.{line_len, number_fits, scale_fits}
@@ -103,8 +104,8 @@ added_minors m l s order lines row line t loadable comb arranged = record {
 pub added_solutions : (m : ℕ) (l : List LoadedRow) (s : ℤ) (order : List ℕ) (lines : List (List ℤ)) (row : LoadedRow) (line : List ℤ) (a b e f g h : ℕ) (x : ℕ → ℤ)
     → AreMinors m l s order lines → AreMinors m (l ++ row ∷ []) s (order ++ length order ∷ []) (lines ++ line ∷ [])
     → IsLoadable m row → IsCombination s (row_of row) line (square_of m l order)
-    → (Satisfies (view_of m l s order lines a b e f) x → HasSlacks m l x)
-    → Satisfies (view_of m (l ++ row ∷ []) s (order ++ length order ∷ []) (lines ++ line ∷ []) a b g h) x → HasSlacks m (l ++ row ∷ []) x
+    → (Satisfies (view_with m l s order lines a b e f) x → HasSlacks m l x)
+    → Satisfies (view_with m (l ++ row ∷ []) s (order ++ length order ∷ []) (lines ++ line ∷ []) a b g h) x → HasSlacks m (l ++ row ∷ []) x
 added_solutions m l s order lines row line a b e f g h x t new loadable comb solutions satisfied =
     record { each = λ i below. slack i (cases_lt i (length l)) (omega (arith, length_push l row)) }
   where
@@ -145,9 +146,9 @@ added_solutions m l s order lines row line a b e f g h x t new loadable comb sol
         ∙ ap (λ (r : LoadedRow). slack_of m r x) (sym (get_or_at l row [] no_row i at))
 
 pub added_kept : (m : ℕ) (l new_l : List LoadedRow) (s : ℤ) (places new_places : Arranged) (lines new_lines : List (List ℤ)) (row : LoadedRow) (line : List ℤ) (a b c d e f new_c new_d g : ℕ)
-    → IsRepresentation m l s places lines a b c d e f → IsLoadable m row → IsCombination s (row_of row) line (square_of m l places.order) → length l < b
+    → IsRepresentation (view_with m l s places.order lines a b e f) places c d → IsLoadable m row → IsCombination s (row_of row) line (square_of m l places.order) → length l < b
     → new_l ≡ l ++ row ∷ [] → new_lines ≡ lines ++ line ∷ [] → new_places ≡ record places { order = places.order ++ length places.order ∷ [] } → IsArrangement new_places.order
-    → c ≤ new_c → d ≤ new_d → IsRepresentation m new_l s new_places new_lines a b new_c new_d e g
+    → c ≤ new_c → d ≤ new_d → IsRepresentation (view_with m new_l s new_places.order new_lines a b e g) new_places new_c new_d
 added_kept m l new_l s places new_places lines new_lines row line a b c d e f new_c new_d g k loadable comb room l_is lines_are places_are arranged c_room d_room =
     let order = places.order in
     let new = added_minors m l s order lines row line k.minors loadable comb (subst IsArrangement (ap (λ (p : Arranged). p.order) places_are) arranged) in
@@ -175,11 +176,11 @@ can_combine m l s order lines t = record {
 }
 
 pub added_view : (m : ℕ) (l new_l : List LoadedRow) (s : ℤ) (places new_places : Arranged) (lines new_lines : List (List ℤ)) (row : LoadedRow) (line : List ℤ) (a b e f g : ℕ) (old : DictionaryView)
-    → view_of m l s places.order lines a b e f ≡ old → length places.order ≡ m + 1 + length l
+    → view_with m l s places.order lines a b e f ≡ old → length places.order ≡ m + 1 + length l
     → new_l ≡ l ++ row ∷ [] → new_lines ≡ lines ++ line ∷ [] → new_places ≡ record places { order = places.order ++ length places.order ∷ [] } → g ≡ next_count f
-    → AddsRow old (view_of m new_l s new_places.order new_lines a b e g) row
+    → AddsRow old (view_with m new_l s new_places.order new_lines a b e g) row
 added_view m l new_l s places new_places lines new_lines row line a b e f g old is len l_is lines_are places_are count =
-    subst (λ (t : DictionaryView). AddsRow t (view_of m new_l s new_places.order new_lines a b e g) row) is (record { line = line; is = new })
+    subst (λ (t : DictionaryView). AddsRow t (view_with m new_l s new_places.order new_lines a b e g) row) is (record { line = line; is = new })
   where
     order : List ℕ
     order = places.order
@@ -190,7 +191,7 @@ added_view m l new_l s places new_places lines new_lines row line a b e f g old 
     rows : drop (m + 1) (order ++ length order ∷ []) ≡ drop (m + 1) order ++ (m + 1 + length l) ∷ []
     rows = drop-append-le (m + 1) order (length order ∷ []) (omega arith) ∙ ap (λ n. drop (m + 1) order ++ n ∷ []) len
 
-    new : view_of m new_l s new_places.order new_lines a b e g ≡ record (view_of m l s order lines a b e f) {
+    new : view_with m new_l s new_places.order new_lines a b e g ≡ record (view_with m l s order lines a b e f) {
       loaded = l ++ row ∷ [];
       basic = drop (m + 1) order ++ (m + 1 + length l) ∷ [];
       lines = lines ++ line ∷ [];

@@ -12,7 +12,8 @@ use Rattle.fraction_free.specs.declared.loaded.LoadedRow.{LoadedRow}
 use Rattle.fraction_free.specs.Arrangement.{IsArrangement, Arranged}
 use Rattle.fraction_free.specs.Dictionary.{IsLoadable, HasSlacks, loaded_at, no_row, slack_of, vector_of}
 use Rattle.fraction_free.specs.Changes.{DropsRow}
-use Rattle.fraction_free.specs.Representation.{table_row, square_of, view_of, AreMinors, IsRepresentation}
+use Rattle.fraction_free.specs.Representation.{table_row, square_of, AreMinors, IsRepresentation}
+use Rattle.fraction_free.proofs.Views.{view_with}
 use Rattle.fraction_free.proofs.AddRow.{BeginsWith, table_row_same, square_same, moved}
 use Rattle.fraction_free.proofs.PivotKept.{Equations, equations_of, satisfies_from}
 
@@ -204,10 +205,10 @@ popped_solutions m l s order lines k x t len last solutions h = record { each = 
         ∙ ap (λ (r : LoadedRow). s *ℤ slack_of m r x) (sym (get_or-take k l row no_row below)))
 
 pub dropped_kept : (m : ℕ) (l new_l : List LoadedRow) (s : ℤ) (places new_places : Arranged) (lines new_lines mid_lines : List (List ℤ)) (mid_order : List ℕ) (a b c d e f new_c new_d k first : ℕ)
-    → IsRepresentation m l s places lines a b c d e f → length l ≡ k + 1
+    → IsRepresentation (view_with m l s places.order lines a b e f) places c d → length l ≡ k + 1
     → AreRowsSwapped m places.order lines mid_order mid_lines first k → IsArrangement mid_order → get_or mid_order (m + 1 + k) 0 ≡ m + 1 + k
     → new_l ≡ take k l → new_lines ≡ take k mid_lines → new_places.order ≡ take (m + 1 + k) mid_order → new_places.room ≡ places.room → IsArrangement new_places.order
-    → c ≤ new_c → d ≤ new_d → IsRepresentation m new_l s new_places new_lines a b new_c new_d e f
+    → c ≤ new_c → d ≤ new_d → IsRepresentation (view_with m new_l s new_places.order new_lines a b e f) new_places new_c new_d
 dropped_kept m l new_l s places new_places lines new_lines mid_lines mid_order a b c d e f new_c new_d k first kept len swapped mid_arranged last l_is lines_is order_is room_is arranged c_room d_room =
     let t = kept.minors in
     let mid = swapped_minors m l s places.order lines mid_order mid_lines first k t swapped mid_arranged in
@@ -255,7 +256,7 @@ pub dropped_row : (m : ℕ) (l new_l : List LoadedRow) (s : ℤ) (order mid_orde
     → length l ≡ k + 1 → length lines ≡ k + 1 → length order ≡ m + 1 + k + 1 → AreRowsSwapped m order lines mid_order mid_lines row k
     → get_or (drop (m + 1) order) row 0 ≡ m + (k + 1)
     → new_l ≡ take k l → new_lines ≡ take k mid_lines → new_order ≡ take (m + 1 + k) mid_order
-    → DropsRow (view_of m l s order lines a b e f) (view_of m new_l s new_order new_lines a b e f) row
+    → DropsRow (view_with m l s order lines a b e f) (view_with m new_l s new_order new_lines a b e f) row
 dropped_row m l new_l s order mid_order new_order lines mid_lines new_lines a b e f k row len lines_len order_len swapped slack l_is lines_is order_is =
     let order_removed : new_order ≡ swap_remove order (m + 1 + row) 0 = order_is ∙ removed_end order mid_order (m + 1 + row) (m + 1 + k) 0 order_len swapped.order_swapped in
     let loaded : new_l ≡ take (length l - 1) l = l_is ∙ ap (λ n. take n l) (omega arith) in
@@ -321,7 +322,7 @@ slack_has_entry m l s order lines column k t len below is solutions zeros =
         ∙ sym (dot_none x (get_or lines row []) (take (m + 1) order) (factor row inside)))
 
 -- so the first row with an entry that isn't 0 is there
-pub found_below : (m : ℕ) (l : List LoadedRow) (s : ℤ) (places : Arranged) (lines given : List (List ℤ)) (a b c d e f column row last : ℕ) → IsRepresentation m l s places lines a b c d e f → 0 < length l → last ≡ m + length l
+pub found_below : (m : ℕ) (l : List LoadedRow) (s : ℤ) (places : Arranged) (lines given : List (List ℤ)) (a b c d e f column row last : ℕ) → IsRepresentation (view_with m l s places.order lines a b e f) places c d → 0 < length l → last ≡ m + length l
     → column < m → get_or places.order column 0 ≡ last → given ≡ lines → ((r : ℕ) → r < row → get_or (get_or given r []) column (pos 0) ≡ pos 0) → row < length l
 found_below m l s places lines given a b c d e f column row last kept some last_is below value same before =
     let t = kept.minors in

@@ -11,7 +11,8 @@ use Rattle.minors.proofs.Laws.{scale_of_identity}
 use Rattle.fraction_free.specs.declared.loaded.LoadedRow.{LoadedRow}
 use Rattle.fraction_free.specs.Arrangement.{IsArrangement, Arranged}
 use Rattle.fraction_free.specs.Changes.{empty_dictionary}
-use Rattle.fraction_free.specs.Representation.{unit, table_row, square_of, view_of, AreMinors, IsRepresentation}
+use Rattle.fraction_free.specs.Representation.{unit, table_row, square_of, AreMinors, IsRepresentation}
+use Rattle.fraction_free.proofs.Views.{view_with}
 use Rattle.fraction_free.proofs.Table.{unit_is, length-square, square_at, table_row-increment}
 
 abbrev pub first_order : ℕ → List ℕ
@@ -59,7 +60,7 @@ empty_minors m some most arranged = record {
 
 pub empty_kept : (m : ℕ) (l : List LoadedRow) (s : ℤ) (places : Arranged) (lines : List (List ℤ)) (a b c d e f : ℕ) → 1 ≤ m → l ≡ [] → s ≡ pos 1 → lines ≡ []
     → places.order ≡ first_order m → IsArrangement places.order → m ≤ a → a ≤ 24 → b ≤ 65536 → a + 1 + b ≤ places.room → b ≤ c → b ≤ d
-    → IsRepresentation m l s places lines a b c d e f
+    → IsRepresentation (view_with m l s places.order lines a b e f) places c d
 empty_kept m l s places lines a b c d e f some no_rows one no_lines order arranged columns_room columns_most rows_most places_room lines_room loaded_room = record {
   minors = rw (no_rows, one, order, no_lines) (empty_minors m some (omega arith) (subst IsArrangement order arranged));
   solutions = λ x h. record { each = λ row below. absurd (omega (arith, ap length no_rows)) };
@@ -73,6 +74,6 @@ empty_kept m l s places lines a b c d e f some no_rows one no_lines order arrang
 }
 
 pub empty_view : (m : ℕ) (l : List LoadedRow) (s : ℤ) (order : List ℕ) (lines : List (List ℤ)) (a b e f : ℕ) → l ≡ [] → s ≡ pos 1 → lines ≡ [] → order ≡ first_order m
-    → view_of m l s order lines a b e f ≡ empty_dictionary m a b e f
+    → view_with m l s order lines a b e f ≡ empty_dictionary m a b e f
 empty_view m l s order lines a b e f no_rows one no_lines is =
     rw (no_rows, one, no_lines, is, take_at (range_with_len 1 m) (0 ∷ []) m (length-range_with_len 1 m), drop_all (m + 1) (first_order m) (omega (arith, length-first m))) refl

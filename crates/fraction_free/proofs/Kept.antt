@@ -10,7 +10,8 @@ use Rattle.row_laws.specs.Rows.{dot, entry}
 use Rattle.fraction_free.specs.declared.loaded.LoadedRow.{LoadedRow}
 use Rattle.fraction_free.specs.Arrangement.{IsArrangement, Arranged}
 use Rattle.fraction_free.specs.Dictionary.{IsDictionary, HasSlacks, Satisfies, max_number}
-use Rattle.fraction_free.specs.Representation.{table_row, square_of, view_of, AreMinors, IsRepresentation, CanExchange}
+use Rattle.fraction_free.specs.Representation.{table_row, square_of, AreMinors, IsRepresentation, CanExchange}
+use Rattle.fraction_free.proofs.Views.{view_with}
 use Rattle.fraction_free.proofs.Table.{square_small, length-square, table_row_small}
 use Rattle.fraction_free.proofs.Values.{combination_value, variable_value}
 
@@ -24,7 +25,7 @@ whole_order m order below constant =
 
 -- the loaded rows' slacks satisfy the dictionary
 pub satisfied : (m : ℕ) (l : List LoadedRow) (s : ℤ) (order : List ℕ) (lines : List (List ℤ)) (a b c d : ℕ) (x : ℕ → ℤ)
-    → AreMinors m l s order lines → HasSlacks m l x → Satisfies (view_of m l s order lines a b c d) x
+    → AreMinors m l s order lines → HasSlacks m l x → Satisfies (view_with m l s order lines a b c d) x
 satisfied m l s order lines a b c d x t h = record {
   each = λ row below.
       let inside : row < length l = omega (arith, length-drop (m + 1) order, t.order_len) in
@@ -58,7 +59,7 @@ pub line_len : (m : ℕ) (l : List LoadedRow) (s : ℤ) (order : List ℕ) (line
 line_len m l s order lines row t inside = (t.lines_are row inside).len ∙ length-square m l order (omega (arith, t.order_len))
 
 pub dictionary_from_kept : (m : ℕ) (l : List LoadedRow) (s : ℤ) (places : Arranged) (lines : List (List ℤ)) (a b c d e f : ℕ)
-    → IsRepresentation m l s places lines a b c d e f → IsDictionary (view_of m l s places.order lines a b e f)
+    → IsRepresentation (view_with m l s places.order lines a b e f) places c d → IsDictionary (view_with m l s places.order lines a b e f)
 dictionary_from_kept m l s places lines a b c d e f k =
     let t = k.minors in
     let order = places.order in

@@ -1,5 +1,6 @@
 pub mod Arrangements
 pub mod Table
+pub mod Views
 pub mod Kept
 pub mod Values
 pub mod Signs

@@ -130,36 +130,39 @@ pub record AreExchangedTo (scale : ℤ) (at column : ℕ) (old now : List (List 
   pub other_lines : (other : ℕ) → other < row → other ≢ at → IsOtherLine scale column (get_or old at []) (get_or old other []) (get_or now other [])
   pub rest : (other : ℕ) → row ≤ other → get_or now other [] ≡ get_or old other []
 
+-- a row that is written, and the others
+written : (now next : List (List ℤ)) (row : ℕ) (line : List ℤ) → row < length now → next ≡ set now row line → get_or next row [] ≡ line
+written now next row line below is = ap (λ (ls : List (List ℤ)). get_or ls row []) is ∙ get_or-set_same now row line [] below
+
+unwritten : (now next : List (List ℤ)) (row : ℕ) (line : List ℤ) → next ≡ set now row line → (other : ℕ) → other ≢ row → get_or next other [] ≡ get_or now other []
+unwritten now next row line is other apart = ap (λ (ls : List (List ℤ)). get_or ls other []) is ∙ get_or-set_other now row other line [] apart
+
 pub lines_left : (s : ℤ) (at column : ℕ) (old now next : List (List ℤ)) (row : ℕ) (line : List ℤ) → AreExchangedTo s at column old now row → row ≡ at → row < length old
     → next ≡ set now row line → IsPivotLine s column (get_or old at []) line → AreExchangedTo s at column old next (row + 1)
-lines_left s at column old now next row line h same below is p = record {
-  len = ap length is ∙ length-set now row line ∙ h.len;
-  pivot_line = λ before. subst (IsPivotLine s column (get_or old at [])) (sym (ap (λ k. get_or next k []) (sym same) ∙ here)) p;
-  other_lines = λ other before apart. subst (IsOtherLine s column (get_or old at []) (get_or old other [])) (sym (there other (omega arith))) (h.other_lines other (omega arith) apart);
-  rest = λ other above. there other (omega arith) ∙ h.rest other (omega arith);
-}
-  where
-    here : get_or next row [] ≡ line
-    here = ap (λ (ls : List (List ℤ)). get_or ls row []) is ∙ get_or-set_same now row line [] (omega (arith, h.len))
-
-    there : (other : ℕ) → other ≢ row → get_or next other [] ≡ get_or now other []
-    there other apart = ap (λ (ls : List (List ℤ)). get_or ls other []) is ∙ get_or-set_other now row other line [] apart
+lines_left s at column old now next row line h same below is p =
+    let here = written now next row line (omega (arith, h.len)) is in
+    let there = unwritten now next row line is in
+    record {
+      len = ap length is ∙ length-set now row line ∙ h.len;
+      pivot_line = λ before. subst (IsPivotLine s column (get_or old at [])) (sym (ap (λ k. get_or next k []) (sym same) ∙ here)) p;
+      other_lines = λ other before apart. subst (IsOtherLine s column (get_or old at []) (get_or old other [])) (sym (there other (omega arith))) (h.other_lines other (omega arith) apart);
+      rest = λ other above. there other (omega arith) ∙ h.rest other (omega arith);
+    }
 
 pub lines_exchanged : (s : ℤ) (at column : ℕ) (old now next : List (List ℤ)) (row : ℕ) (line : List ℤ) → AreExchangedTo s at column old now row → row ≢ at → row < length old
     → next ≡ set now row line → IsOtherLine s column (get_or old at []) (get_or old row []) line → AreExchangedTo s at column old next (row + 1)
-lines_exchanged s at column old now next row line h not_at below is p = record {
-  len = ap length is ∙ length-set now row line ∙ h.len;
-  pivot_line = λ before. subst (IsPivotLine s column (get_or old at [])) (sym (there at (λ e. not_at (sym e)))) (h.pivot_line (omega arith));
-  other_lines = λ other before apart.
-      elim (cases_eq other row) [
-        | inl same ↦ subst (λ k. IsOtherLine s column (get_or old at []) (get_or old k []) (get_or next k [])) (sym same) (subst (IsOtherLine s column (get_or old at []) (get_or old row [])) (sym here) p)
-        | inr other_row ↦ subst (IsOtherLine s column (get_or old at []) (get_or old other [])) (sym (there other other_row)) (h.other_lines other (omega arith) apart)
-      ];
-  rest = λ other above. there other (omega arith) ∙ h.rest other (omega arith);
-}
-  where
-    here : get_or next row [] ≡ line
-    here = ap (λ (ls : List (List ℤ)). get_or ls row []) is ∙ get_or-set_same now row line [] (omega (arith, h.len))
-
-    there : (other : ℕ) → other ≢ row → get_or next other [] ≡ get_or now other []
-    there other apart = ap (λ (ls : List (List ℤ)). get_or ls other []) is ∙ get_or-set_other now row other line [] apart
+lines_exchanged s at column old now next row line h not_at below is p =
+    let here = written now next row line (omega (arith, h.len)) is in
+    let there = unwritten now next row line is in
+    record {
+      len = ap length is ∙ length-set now row line ∙ h.len;
+      pivot_line = λ before. subst (IsPivotLine s column (get_or old at [])) (sym (there at (λ e. not_at (sym e)))) (h.pivot_line (omega arith));
+      other_lines = λ other before apart.
+          elim (cases_eq other row) [
+            | inl same ↦
+                subst (λ k. IsOtherLine s column (get_or old at []) (get_or old k []) (get_or next k [])) (sym same)
+                (subst (IsOtherLine s column (get_or old at []) (get_or old row [])) (sym here) p)
+            | inr other_row ↦ subst (IsOtherLine s column (get_or old at []) (get_or old other [])) (sym (there other other_row)) (h.other_lines other (omega arith) apart)
+          ];
+      rest = λ other above. there other (omega arith) ∙ h.rest other (omega arith);
+    }

@@ -14,7 +14,8 @@ use Rattle.fraction_free.specs.declared.loaded.LoadedRow.{LoadedRow}
 use Rattle.fraction_free.specs.Arrangement.{IsArrangement, Arranged}
 use Rattle.fraction_free.specs.Changes.{with_sign, IsOtherLine, IsPivotLine, IsPivoted}
 use Rattle.fraction_free.specs.Dictionary.{Satisfies}
-use Rattle.fraction_free.specs.Representation.{table_row, square_of, view_of, AreMinors, IsRepresentation, AreExchanged}
+use Rattle.fraction_free.specs.Representation.{table_row, square_of, AreMinors, IsRepresentation, AreExchanged}
+use Rattle.fraction_free.proofs.Views.{view_with}
 use Rattle.fraction_free.proofs.Table.{square_at, length-square}
 use Rattle.fraction_free.proofs.Kept.{columns_and_constant, line_len}
 use Rattle.fraction_free.proofs.Signs.{with_sign-self, with_sign-abs, turn, turned_scale, combination_of_turned, turned_of_combination, pivoted_of, leaving_of, pivoted_back, leaving_back}
@@ -120,14 +121,14 @@ abbrev pub Equations : ℕ → ℕ → ℤ → List ℕ → List (List ℤ) → 
 Equations m count s order lines x = (row : ℕ) → row < count → s *ℤ x (get_or order (m + 1 + row) 0) ≡ dot (get_or lines row []) (map x (take (m + 1) order))
 
 pub equations_of : (m : ℕ) (l : List LoadedRow) (s : ℤ) (order : List ℕ) (lines : List (List ℤ)) (a b c d : ℕ) (x : ℕ → ℤ)
-    → length order ≡ m + 1 + length l → get_or order m 0 ≡ 0 → Satisfies (view_of m l s order lines a b c d) x → Equations m (length l) s order lines x
+    → length order ≡ m + 1 + length l → get_or order m 0 ≡ 0 → Satisfies (view_with m l s order lines a b c d) x → Equations m (length l) s order lines x
 equations_of m l s order lines a b c d x len constant h row below =
     ap (λ k. s *ℤ x k) (sym (get_or-drop (m + 1) order row 0))
     ∙ h.each row (omega (arith, length-drop (m + 1) order))
     ∙ ap (λ vs. dot (get_or lines row []) (map x vs)) (columns_and_constant m order (omega arith) constant)
 
 pub satisfies_from : (m : ℕ) (l : List LoadedRow) (s : ℤ) (order : List ℕ) (lines : List (List ℤ)) (a b c d : ℕ) (x : ℕ → ℤ)
-    → length order ≡ m + 1 + length l → get_or order m 0 ≡ 0 → Equations m (length l) s order lines x → Satisfies (view_of m l s order lines a b c d) x
+    → length order ≡ m + 1 + length l → get_or order m 0 ≡ 0 → Equations m (length l) s order lines x → Satisfies (view_with m l s order lines a b c d) x
 satisfies_from m l s order lines a b c d x len constant h = record {
   each = λ row below.
       ap (λ k. s *ℤ x k) (get_or-drop (m + 1) order row 0)
@@ -277,7 +278,7 @@ exchange_from m l s t order new_order lines new_lines row column n q entry_is w 
 
 pub exchanged_back_all : (m : ℕ) (l : List LoadedRow) (s : ℤ) (places : Arranged) (lines : List (List ℤ)) (new_s : ℤ) (new_places : Arranged) (new_lines : List (List ℤ)) (row column a b e f : ℕ) (v : ℕ → ℤ)
     → AreMinors m l s places.order lines → IsExchange m s places.order lines new_s new_places.order new_lines row column
-    → Satisfies (view_of m l new_s new_places.order new_lines a b e f) v → Satisfies (view_of m l s places.order lines a b e f) v
+    → Satisfies (view_with m l new_s new_places.order new_lines a b e f) v → Satisfies (view_with m l s places.order lines a b e f) v
 exchanged_back_all m l s places lines new_s new_places new_lines row column a b e f v k x h =
     let new = exchange_keeps m l s places.order lines new_s new_places.order new_lines row column k x in
     satisfies_from m l s places.order lines a b e f v k.order_len k.constant
@@ -285,8 +286,8 @@ exchanged_back_all m l s places lines new_s new_places new_lines row column a b 
     (equations_of m l new_s new_places.order new_lines a b e f v new.order_len new.constant h))
 
 pub exchanged_kept : (m : ℕ) (l : List LoadedRow) (s : ℤ) (places : Arranged) (lines : List (List ℤ)) (new_s : ℤ) (new_places : Arranged) (new_lines : List (List ℤ)) (row column a b c d new_c e f : ℕ)
-    → IsRepresentation m l s places lines a b c d e f → IsExchange m s places.order lines new_s new_places.order new_lines row column → new_places.room ≡ places.room → new_c ≡ c
-    → IsRepresentation m l new_s new_places new_lines a b new_c d e f
+    → IsRepresentation (view_with m l s places.order lines a b e f) places c d → IsExchange m s places.order lines new_s new_places.order new_lines row column → new_places.room ≡ places.room → new_c ≡ c
+    → IsRepresentation (view_with m l new_s new_places.order new_lines a b e f) new_places new_c d
 exchanged_kept m l s places lines new_s new_places new_lines row column a b c d new_c e f k x room same = record {
   minors = exchange_keeps m l s places.order lines new_s new_places.order new_lines row column k.minors x;
   solutions = λ v h. k.solutions v (exchanged_back_all m l s places lines new_s new_places new_lines row column a b e f v k.minors x h);
@@ -301,7 +302,7 @@ exchanged_kept m l s places lines new_s new_places new_lines row column a b c d 
 
 pub pivoted_from : (m : ℕ) (l : List LoadedRow) (s : ℤ) (order : List ℕ) (lines : List (List ℤ)) (new_s : ℤ) (new_order : List ℕ) (new_lines : List (List ℤ)) (row column a b e f : ℕ)
     → IsExchange m s order lines new_s new_order new_lines row column
-    → IsPivoted (view_of m l s order lines a b e f) (view_of m l new_s new_order new_lines a b e f) row column
+    → IsPivoted (view_with m l s order lines a b e f) (view_with m l new_s new_order new_lines a b e f) row column
 pivoted_from m l s order lines new_s new_order new_lines row column a b e f x = record {
   rest = refl;
   nonbasic =

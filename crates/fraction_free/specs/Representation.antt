@@ -1,6 +1,6 @@
 -- How a dictionary keeps what it promises: scale and entries are minors of the table of its variables.
 -- The table has a row for each variable, and a column for each increment and one for the constant 1.
-use Rattle.std.specs.Prelude.{ℕ, ◌+◌, ◌-◌, ◌≡◌, ◌<◌, ◌≤◌, List, [], ◌∷◌, ◌++◌, length, take, drop, map, slice_index, slice_index_or, ℤ, pos, neg_ℤ, ◌+ℤ◌, ◌-ℤ◌, ◌*ℤ◌, ◌≤ℤ◌, ◌≢◌, unsigned_abs, fold, if◌then◌else◌, ◌==◌, nat_le, nat_lt, slice_set, replicate}
+use Rattle.std.specs.Prelude.{ℕ, ◌+◌, ◌-◌, ◌≡◌, ◌<◌, ◌≤◌, List, [], ◌∷◌, ◌++◌, length, take, map, slice_index, slice_index_or, ℤ, pos, neg_ℤ, ◌+ℤ◌, ◌-ℤ◌, ◌*ℤ◌, ◌≤ℤ◌, ◌≢◌, unsigned_abs, fold, if◌then◌else◌, ◌==◌, nat_le, nat_lt, slice_set, replicate}
 use Rattle.std.specs.List.{range_with_len}
 use Rattle.wide_step.specs.Quotient.{HasQuotient}
 use Rattle.row_laws.specs.Rows.{entry}
@@ -35,21 +35,6 @@ table_row columns loaded variable =
 abbrev pub square_of : ℕ → List LoadedRow → List ℕ → List (List ℤ)
 square_of columns loaded order = map (table_row columns loaded) (take (columns + 1) order)
 
--- the dictionary with these variables: of the columns, 0, and of the rows
-abbrev pub view_of : ℕ → List LoadedRow → ℤ → List ℕ → List (List ℤ) → ℕ → ℕ → ℕ → ℕ → DictionaryView
-view_of columns loaded scale order lines room_columns room_rows loads added = record {
-  columns = columns;
-  loaded = loaded;
-  scale = scale;
-  nonbasic = take columns order;
-  basic = drop (columns + 1) order;
-  lines = lines;
-  room_columns = room_columns;
-  room_rows = room_rows;
-  loads = loads;
-  added = added;
-}
-
 -- scale and lines are minors, up to one common sign
 pub record AreMinors (columns : ℕ) (loaded : List LoadedRow) (scale : ℤ) (order : List ℕ) (lines : List (List ℤ)) : Type 0 where
   pub columns_some : 1 ≤ columns
@@ -65,16 +50,16 @@ pub record AreMinors (columns : ℕ) (loaded : List LoadedRow) (scale : ℤ) (or
       → IsCombination scale (table_row columns loaded (slice_index order (columns + 1 + row))) (slice_index_or lines row []) (square_of columns loaded order)
 
 -- what a dictionary keeps: its numbers are minors, its solutions have the loaded rows' slacks, and there is room
-pub record IsRepresentation (columns : ℕ) (loaded : List LoadedRow) (scale : ℤ) (places : Arranged) (lines : List (List ℤ)) (room_columns room_rows lines_room loaded_room loads added : ℕ) : Type 0 where
-  pub minors : AreMinors columns loaded scale places.order lines
-  pub solutions : (x : ℕ → ℤ) → Satisfies (view_of columns loaded scale places.order lines room_columns room_rows loads added) x → HasSlacks columns loaded x
-  pub columns_room : columns ≤ room_columns
-  pub columns_most : room_columns ≤ MAX_INCREMENTS
-  pub rows_room : length loaded ≤ room_rows
-  pub rows_most : room_rows ≤ MAX_ROWS
-  pub places_room : room_columns + 1 + room_rows ≤ places.room
-  pub has_lines_room : room_rows ≤ lines_room
-  pub has_loaded_room : room_rows ≤ loaded_room
+pub record IsRepresentation (dictionary : DictionaryView) (places : Arranged) (lines_room loaded_room : ℕ) : Type 0 where
+  pub minors : AreMinors dictionary.columns dictionary.loaded dictionary.scale places.order dictionary.lines
+  pub solutions : (x : ℕ → ℤ) → Satisfies dictionary x → HasSlacks dictionary.columns dictionary.loaded x
+  pub columns_room : dictionary.columns ≤ dictionary.room_columns
+  pub columns_most : dictionary.room_columns ≤ MAX_INCREMENTS
+  pub rows_room : length dictionary.loaded ≤ dictionary.room_rows
+  pub rows_most : dictionary.room_rows ≤ MAX_ROWS
+  pub places_room : dictionary.room_columns + 1 + dictionary.room_rows ≤ places.room
+  pub has_lines_room : dictionary.room_rows ≤ lines_room
+  pub has_loaded_room : dictionary.room_rows ≤ loaded_room
 
 -- what a pivot asks of the lines: sizes, and that each difference of products has an exact quotient
 pub record CanExchange (scale : ℤ) (at column : ℕ) (lines : List (List ℤ)) : Type 0 where

@@ -33,15 +33,15 @@ pub struct Dictionary {
 impl Model for Dictionary {
     ghost use Rattle.std.specs.Prelude.{vec_capacity};
     ghost use Rattle.fraction_free.specs.Dictionary.{DictionaryView};
-    ghost use Rattle.fraction_free.specs.Representation.{view_of, IsRepresentation};
+    ghost use Rattle.fraction_free.specs.Representation.{IsRepresentation};
 
     ghost Value = { DictionaryView };
 
-    ghost view = { λ d. view_of d.columns d.loaded.items d.scale d.places.order d.lines.items
-        d.room_columns d.room_rows d.loads d.added };
+    ghost use Rattle.fraction_free.specs.View.{view_of};
 
-    ghost invariant = { λ d. IsRepresentation d.columns d.loaded.items d.scale d.places d.lines.items
-        d.room_columns d.room_rows (vec_capacity d.lines) (vec_capacity d.loaded) d.loads d.added };
+    ghost view = { view_of };
+
+    ghost invariant = { λ d. IsRepresentation (view_of d) d.places (vec_capacity d.lines) (vec_capacity d.loaded) };
 }
 
 impl Dictionary {

@@ -87,7 +87,7 @@ fn is_check(words: &[String]) -> bool
 /// Adds the line of a verdict to an empty text.
 fn add_line(text: &mut Text, verdict: Checked)
     requires empty { text.old.bytes ≡ [] }
-    requires room { text.old.room ≡ 64 }
+    requires room { text.old.room ≡ ROOM }
     ensures { text.new.bytes ≡ verdict_line verdict }
 {
     match verdict {

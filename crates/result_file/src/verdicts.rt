@@ -35,7 +35,7 @@ pub enum Part {
     Asked,
     /// Too many questions are open.
     Full,
-    /// A class that comes earlier is due.
+    /// A class that comes earlier is neither ranked by an event nor issued.
     Earlier,
     /// Its two vectors don't open the pair.
     Vectors,

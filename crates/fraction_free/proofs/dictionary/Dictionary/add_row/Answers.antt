@@ -10,6 +10,7 @@ use Rattle.fraction_free.specs.Representation.{CanCombine, AreMinors, row_of, sq
 use Rattle.fraction_free.proofs.AddRow.{added_kept, added_view, can_combine}
 use Rattle.fraction_free.proofs.Kept.{dictionary_from_kept, scale_fits}
 use Rattle.fraction_free.proofs.dictionary.Dictionary.add_row.Goals as goal
+use Rattle.fraction_free.proofs.dictionary.Dictionary.add_row.Goals.{After-push-pushed-2}
 
 combine_along : (m : ℕ) (s t : ℤ) (order : List ℕ) (lines given : List (List ℤ)) → t ≡ s → given ≡ lines → CanCombine m s order lines → CanCombine m t order given
 combine_along m s t order lines given i j h = rw (i, j) h
@@ -33,42 +34,56 @@ line_along m l s t order lines given coefficients line least u i j n h k = rw (s
 loadable_along : (m : ℕ) (coefficients : List ℤ) (least u : ℤ) → u ≡ least → IsLoadable m (record { coefficients = coefficients; least = u }) → IsLoadable m (record { coefficients = coefficients; least = least })
 loadable_along m coefficients least u n h = rw (sym n) h
 
+-- the lists with one more each
+module _ (c : After-push-pushed-2) where
+  pub has_room : length c.self.inside.loaded.items < c.self.inside.room_rows
+  has_room =
+      omega (arith, ap (λ (t : DictionaryView). length t.loaded) c.self.view_is, ap (λ (t : DictionaryView). t.room_rows) c.self.view_is, c.requires.room)
+
+  lines_room : vec_len c.self.inside.lines < vec_capacity c.self.inside.lines
+  lines_room = omega (arith, c.self.inside.lines.ok.0, c.self.invariant.minors.lines_len, c.self.invariant.has_lines_room, has_room)
+
+  loaded_room : vec_len c.self.inside.loaded < vec_capacity c.self.inside.loaded
+  loaded_room = omega (arith, c.self.inside.loaded.ok.0, c.self.invariant.has_loaded_room, has_room)
+
+  pub lines_are : c.push-pushed.new.self.items ≡ c.self.inside.lines.items ++ c.slack_line-line.result ∷ []
+  lines_are =
+      pushed _ c.self.inside.lines.items c.push-pushed.new.self.items c.slack_line-line.result
+      (c.push-pushed.ensures.succeeds lines_room) c.push-pushed.ensures.items
+
+  pub loaded_are : c.push-pushed-2.new.self.items
+      ≡ c.self.inside.loaded.items ++ record { coefficients = c.args.coefficients.now; least = c.args.least } ∷ []
+  loaded_are =
+      subst (λ (z : ℤ). c.push-pushed-2.new.self.items ≡ c.self.inside.loaded.items ++ record { coefficients = c.args.coefficients.now; least = z } ∷ [])
+      (to_z-of_z w8 c.args.least c.ranges.least)
+      (pushed _ c.self.inside.loaded.items c.push-pushed-2.new.self.items _ (c.push-pushed-2.ensures.succeeds loaded_room) c.push-pushed-2.ensures.items)
+
 pub invariant_of-self : goal.invariant_of-self
 invariant_of-self c =
+    let p = (goal.at.invariant_of-self c).After-push-pushed-2 in
     let inside = c.self.inside in
     let k = c.self.invariant in
-    let rows : length inside.loaded.items ≡ length c.args.self.now.loaded = ap (λ (t : DictionaryView). length t.loaded) c.self.view_is in
-    let room_rows : inside.room_rows ≡ c.args.self.now.room_rows = ap (λ (t : DictionaryView). t.room_rows) c.self.view_is in
-    let lines_room : vec_len inside.lines < vec_capacity inside.lines = omega (arith, inside.lines.ok.0, k.minors.lines_len, k.has_lines_room, c.requires.room) in
-    let loaded_room : vec_len inside.loaded < vec_capacity inside.loaded = omega (arith, inside.loaded.ok.0, k.has_loaded_room, c.requires.room) in
-    let scale_is = read_back w128 inside.scale (omega (arith, scale_fits inside.columns inside.loaded.items inside.scale inside.places.order inside.lines.items k.minors)) in
+    let scale_is =
+    read_back w128 inside.scale (omega (arith, scale_fits inside.columns inside.loaded.items inside.scale inside.places.order inside.lines.items k.minors)) in
     let least_is = to_z-of_z w8 c.args.least c.ranges.least in
-    added_kept inside.columns inside.loaded.items c.push-pushed-2.new.self.items inside.scale inside.places c.push.new.self inside.lines.items c.push-pushed.new.self.items
-    (record { coefficients = c.args.coefficients.now; least = c.args.least }) c.slack_line-line.result inside.room_columns inside.room_rows _ _ inside.loads inside.added _ _ c.saturating_add-self-inside.result k
+    added_kept inside.columns inside.loaded.items c.push-pushed-2.new.self.items inside.scale inside.places c.push.new.self
+    inside.lines.items c.push-pushed.new.self.items (record { coefficients = c.args.coefficients.now; least = c.args.least })
+    c.slack_line-line.result inside.room_columns inside.room_rows _ _ inside.loads inside.added _ _ c.saturating_add-self-inside.result k
     (loadable_along inside.columns c.args.coefficients.now c.args.least (to_z w8 (of_z w8 c.args.least)) least_is c.slack_line-line.ensures.row)
-    (line_along inside.columns inside.loaded.items inside.scale (to_z w128 (of_z w128 inside.scale)) inside.places.order inside.lines.items c.as_slice.result.now c.args.coefficients.now c.slack_line-line.result
+    (line_along inside.columns inside.loaded.items inside.scale (to_z w128 (of_z w128 inside.scale)) inside.places.order
+    inside.lines.items c.as_slice.result.now c.args.coefficients.now c.slack_line-line.result
     c.args.least (to_z w8 (of_z w8 c.args.least)) scale_is c.as_slice.ensures.value least_is c.slack_line-line.ensures.line k.minors)
-    (omega (arith, c.requires.room))
-    (subst (λ (z : ℤ). c.push-pushed-2.new.self.items ≡ inside.loaded.items ++ record { coefficients = c.args.coefficients.now; least = z } ∷ []) least_is
-    (pushed _ inside.loaded.items c.push-pushed-2.new.self.items _ (c.push-pushed-2.ensures.succeeds loaded_room) c.push-pushed-2.ensures.items))
-    (pushed _ inside.lines.items c.push-pushed.new.self.items c.slack_line-line.result (c.push-pushed.ensures.succeeds lines_room) c.push-pushed.ensures.items)
-    c.push.ensures.order c.push.ensures.arrangement (omega (arith, c.push-pushed.ensures.capacity)) (omega (arith, c.push-pushed-2.ensures.capacity))
+    (has_room p) (loaded_are p) (lines_are p) c.push.ensures.order c.push.ensures.arrangement
+    (omega (arith, c.push-pushed.ensures.capacity)) (omega (arith, c.push-pushed-2.ensures.capacity))
 
 pub returns-clause-added : goal.returns-clause-added
 returns-clause-added c =
+    let p = (goal.at.returns-clause-added c).After-push-pushed-2 in
     let inside = c.self.inside in
-    let k = c.self.invariant in
-    let rows : length inside.loaded.items ≡ length c.args.self.now.loaded = ap (λ (t : DictionaryView). length t.loaded) c.self.view_is in
-    let room_rows : inside.room_rows ≡ c.args.self.now.room_rows = ap (λ (t : DictionaryView). t.room_rows) c.self.view_is in
-    let lines_room : vec_len inside.lines < vec_capacity inside.lines = omega (arith, inside.lines.ok.0, k.minors.lines_len, k.has_lines_room, c.requires.room) in
-    let loaded_room : vec_len inside.loaded < vec_capacity inside.loaded = omega (arith, inside.loaded.ok.0, k.has_loaded_room, c.requires.room) in
-    let least_is = to_z-of_z w8 c.args.least c.ranges.least in
-    added_view inside.columns inside.loaded.items c.push-pushed-2.new.self.items inside.scale inside.places c.push.new.self inside.lines.items c.push-pushed.new.self.items
-    (record { coefficients = c.args.coefficients.now; least = c.args.least }) c.slack_line-line.result inside.room_columns inside.room_rows inside.loads inside.added c.saturating_add-self-inside.result
-    c.args.self.now c.self.view_is k.minors.order_len
-    (subst (λ (z : ℤ). c.push-pushed-2.new.self.items ≡ inside.loaded.items ++ record { coefficients = c.args.coefficients.now; least = z } ∷ []) least_is
-    (pushed _ inside.loaded.items c.push-pushed-2.new.self.items _ (c.push-pushed-2.ensures.succeeds loaded_room) c.push-pushed-2.ensures.items))
-    (pushed _ inside.lines.items c.push-pushed.new.self.items c.slack_line-line.result (c.push-pushed.ensures.succeeds lines_room) c.push-pushed.ensures.items)
+    added_view inside.columns inside.loaded.items c.push-pushed-2.new.self.items inside.scale inside.places c.push.new.self
+    inside.lines.items c.push-pushed.new.self.items (record { coefficients = c.args.coefficients.now; least = c.args.least })
+    c.slack_line-line.result inside.room_columns inside.room_rows inside.loads inside.added c.saturating_add-self-inside.result
+    c.args.self.now c.self.view_is c.self.invariant.minors.order_len (loaded_are p) (lines_are p)
     c.push.ensures.order c.saturating_add-self-inside.ensures
 
 pub returns-clause-dictionary : goal.returns-clause-dictionary

@@ -5,7 +5,7 @@ use Rattle.std.specs.List.{SwappedAt, swap}
 use Rattle.fraction_free.specs.Arrangement.{Arranged}
 use Rattle.fraction_free.specs.Dictionary.{DictionaryView}
 use Rattle.fraction_free.specs.Changes.{DropsRow}
-use Rattle.fraction_free.specs.Representation.{view_of}
+use Rattle.fraction_free.proofs.Views.{view_with}
 use Rattle.fraction_free.proofs.PivotKept.{swapped_at}
 use Rattle.fraction_free.proofs.DropRow.{AreRowsSwapped, dropped_kept, dropped_row}
 use Rattle.fraction_free.proofs.Kept.{dictionary_from_kept}
@@ -75,7 +75,8 @@ invariant_of-self c =
     let inside = c.self.inside in
     let loaded_len : vec_len inside.loaded - 1 ≡ c.len-last.result - 1 = omega (arith, inside.loaded.ok.0, rows p) in
     let mid_lines_len : vec_len c.swap.new.self - 1 ≡ c.len-last.result - 1 = omega (arith, c.swap.ensures.len, c.len-last.ensures) in
-    dropped_kept inside.columns inside.loaded.items c.pop-row.new.self.items inside.scale inside.places c.pop.new.self inside.lines.items c.pop-line.new.self.items c.swap.new.self.items c.swap-2.new.self.order
+    dropped_kept inside.columns inside.loaded.items c.pop-row.new.self.items inside.scale inside.places c.pop.new.self
+    inside.lines.items c.pop-line.new.self.items c.swap.new.self.items c.swap-2.new.self.order
     inside.room_columns inside.room_rows _ _ inside.loads inside.added _ _ (c.len-last.result - 1) c.args.row c.self.invariant (rows p) (swapped p) c.swap-2.ensures.arrangement (last p)
     (c.pop-row.ensures.rest ∙ ap (λ n. take n inside.loaded.items) loaded_len)
     (c.pop-line.ensures.rest ∙ ap (λ n. take n c.swap.new.self.items) mid_lines_len)
@@ -89,9 +90,14 @@ returns-clause-dropped c =
     let inside = c.self.inside in
     let loaded_len : vec_len inside.loaded - 1 ≡ c.len-last.result - 1 = omega (arith, inside.loaded.ok.0, rows p) in
     let mid_lines_len : vec_len c.swap.new.self - 1 ≡ c.len-last.result - 1 = omega (arith, c.swap.ensures.len, c.len-last.ensures) in
-    subst (λ (v : DictionaryView). DropsRow v (view_of inside.columns c.pop-row.new.self.items inside.scale c.pop.new.self.order c.pop-line.new.self.items inside.room_columns inside.room_rows inside.loads inside.added) c.args.row) c.self.view_is
-    (dropped_row inside.columns inside.loaded.items c.pop-row.new.self.items inside.scale inside.places.order c.swap-2.new.self.order c.pop.new.self.order inside.lines.items c.swap.new.self.items c.pop-line.new.self.items
-    inside.room_columns inside.room_rows inside.loads inside.added (c.len-last.result - 1) c.args.row (rows p) (omega (arith, inside.lines.ok.0, c.len-last.ensures, rows p, c.self.invariant.minors.lines_len))
+    let new =
+    view_with inside.columns c.pop-row.new.self.items inside.scale c.pop.new.self.order c.pop-line.new.self.items
+    inside.room_columns inside.room_rows inside.loads inside.added in
+    subst (λ (v : DictionaryView). DropsRow v new c.args.row) c.self.view_is
+    (dropped_row inside.columns inside.loaded.items c.pop-row.new.self.items inside.scale inside.places.order c.swap-2.new.self.order c.pop.new.self.order
+    inside.lines.items c.swap.new.self.items c.pop-line.new.self.items
+    inside.room_columns inside.room_rows inside.loads inside.added (c.len-last.result - 1) c.args.row (rows p)
+    (omega (arith, inside.lines.ok.0, c.len-last.ensures, rows p, c.self.invariant.minors.lines_len))
     (omega (arith, c.self.invariant.minors.order_len, rows p)) (swapped p) (slack p)
     (c.pop-row.ensures.rest ∙ ap (λ n. take n inside.loaded.items) loaded_len)
     (c.pop-line.ensures.rest ∙ ap (λ n. take n c.swap.new.self.items) mid_lines_len)

@@ -32,8 +32,9 @@ exchanged c =
     let inside = c.self.inside in
     let rows : length inside.loaded.items ≡ length c.args.self.now.loaded = ap (λ (t : DictionaryView). length t.loaded) c.self.view_is in
     let columns : inside.columns ≡ c.args.self.now.columns = ap (λ (t : DictionaryView). t.columns) c.self.view_is in
-    exchange_from inside.columns inside.loaded.items inside.scale (to_z w128 (of_z w128 inside.scale)) inside.places.order c.swap.new.self.order inside.lines.items c.pivot_lines-entry.new.lines.items
-    (c.args.row - 1) (c.from-column.result - 1) 0 (c.from.result + 1 + (c.args.row - 1)) c.pivot_lines-entry.result c.with_sign-self-inside.result (to_z w128 (of_z w128 c.with_sign-self-inside.result))
+    exchange_from inside.columns inside.loaded.items inside.scale (to_z w128 (of_z w128 inside.scale)) inside.places.order c.swap.new.self.order
+    inside.lines.items c.pivot_lines-entry.new.lines.items (c.args.row - 1) (c.from-column.result - 1) 0 (c.from.result + 1 + (c.args.row - 1))
+    c.pivot_lines-entry.result c.with_sign-self-inside.result (to_z w128 (of_z w128 c.with_sign-self-inside.result))
     k.minors (omega arith) (omega arith)
     (nonzero_of _ c.args.self.now (c.args.row - 1) c.args.col c.from-column.result c.self.view_is c.from-column.ensures c.requires.entry)
     (read_back w128 inside.scale (omega (arith, scale_fits inside.columns inside.loaded.items inside.scale inside.places.order inside.lines.items k.minors)))
@@ -43,8 +44,8 @@ exchanged c =
 pub invariant_of-self : goal.invariant_of-self
 invariant_of-self c =
     let inside = c.self.inside in
-    exchanged_kept inside.columns inside.loaded.items inside.scale inside.places inside.lines.items (to_z w128 (of_z w128 c.with_sign-self-inside.result)) c.swap.new.self c.pivot_lines-entry.new.lines.items
-    (c.args.row - 1) (c.from-column.result - 1) inside.room_columns inside.room_rows _ _ _ inside.loads inside.added c.self.invariant (exchanged c)
+    exchanged_kept inside.columns inside.loaded.items inside.scale inside.places inside.lines.items
+    (to_z w128 (of_z w128 c.with_sign-self-inside.result)) c.swap.new.self c.pivot_lines-entry.new.lines.items (c.args.row - 1) (c.from-column.result - 1) inside.room_columns inside.room_rows _ _ _ inside.loads inside.added c.self.invariant (exchanged c)
     (ap (λ (a : Arranged). a.room) c.swap.ensures.order) c.pivot_lines-entry.ensures.capacity
 
 pivoted_along : (t u v : DictionaryView) (row n col : ℕ) → t ≡ u → n ≡ col → IsPivoted t v row (n - 1) → IsPivoted u v row (col - 1)
@@ -54,8 +55,8 @@ pub returns-clause-pivoted : goal.returns-clause-pivoted
 returns-clause-pivoted c =
     let inside = c.self.inside in
     pivoted_along _ c.args.self.now _ (c.args.row - 1) c.from-column.result c.args.col c.self.view_is c.from-column.ensures
-    (pivoted_from inside.columns inside.loaded.items inside.scale inside.places.order inside.lines.items (to_z w128 (of_z w128 c.with_sign-self-inside.result)) c.swap.new.self.order c.pivot_lines-entry.new.lines.items
-    (c.args.row - 1) (c.from-column.result - 1) inside.room_columns inside.room_rows inside.loads inside.added (exchanged c))
+    (pivoted_from inside.columns inside.loaded.items inside.scale inside.places.order inside.lines.items
+    (to_z w128 (of_z w128 c.with_sign-self-inside.result)) c.swap.new.self.order c.pivot_lines-entry.new.lines.items (c.args.row - 1) (c.from-column.result - 1) inside.room_columns inside.room_rows inside.loads inside.added (exchanged c))
 
 pub returns-clause-solutions : goal.returns-clause-solutions
 returns-clause-solutions c =
@@ -64,8 +65,8 @@ returns-clause-solutions c =
     let new = invariant_of-self c in
     λ x. (
       (λ h. subst (λ (t : DictionaryView). Satisfies t x) c.self.view_is
-          (exchanged_back_all inside.columns inside.loaded.items inside.scale inside.places inside.lines.items (to_z w128 (of_z w128 c.with_sign-self-inside.result)) c.swap.new.self c.pivot_lines-entry.new.lines.items
-          (c.args.row - 1) (c.from-column.result - 1) inside.room_columns inside.room_rows inside.loads inside.added x k.minors (exchanged c) h)),
+          (exchanged_back_all inside.columns inside.loaded.items inside.scale inside.places inside.lines.items
+          (to_z w128 (of_z w128 c.with_sign-self-inside.result)) c.swap.new.self c.pivot_lines-entry.new.lines.items (c.args.row - 1) (c.from-column.result - 1) inside.room_columns inside.room_rows inside.loads inside.added x k.minors (exchanged c) h)),
       (λ h. satisfied inside.columns inside.loaded.items (to_z w128 (of_z w128 c.with_sign-self-inside.result)) c.swap.new.self.order c.pivot_lines-entry.new.lines.items
           inside.room_columns inside.room_rows inside.loads inside.added x new.minors (k.solutions x (subst (λ (t : DictionaryView). Satisfies t x) (sym c.self.view_is) h))),
     )
