@@ -11,9 +11,8 @@ use Rattle.result_file.specs.declared.bodies.Body.TheVariants as bodies
 use Rattle.result_file.specs.declared.entries.Format.{Format}
 use Rattle.result_file.specs.declared.kinds.Kind.TheVariants as kinds
 use Rattle.result_file.specs.declared.stops.Stop.{Stop}
-use Rattle.result_file.specs.declared.verdicts.Part.{Part}
 use Rattle.result_file.specs.Bodies.{Keeps, Starts, Adds}
-use Rattle.result_file.specs.Checked.{begun, Fails}
+use Rattle.result_file.specs.Checked.{begun}
 use Rattle.result_file.specs.Claims.{Claim}
 use Rattle.result_file.specs.Contents.{Content, of_claims, of_events, IsCompleteContent}
 use Rattle.result_file.specs.Events.{event_line}

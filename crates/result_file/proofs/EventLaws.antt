@@ -1,7 +1,6 @@
 -- What the line of an event does to the history before it.
-use Rattle.std.proofs.Common.{◌≡◌, ◌≢◌, ℕ, ◌-◌, ◌<◌, ◌≤◌, List, [], ◌∷◌, ◌++◌, length, refl, ap, ◌∙◌, arith, None, Some}
+use Rattle.std.proofs.Common.{◌≡◌, ◌≢◌, ℕ, ◌-◌, ◌<◌, ◌≤◌, List, [], ◌∷◌, ◌++◌, length, refl, ap, ◌∙◌, None, Some}
 use Rattle.std.proofs.lemmas.List.Elements.{All-nil, All-cons, All-append}
-use Rattle.std.proofs.lemmas.Option.{slice_get_within}
 use Rattle.criteria_model.specs.declared.pairs.Pair.{Pair}
 use Rattle.pair_enumeration.specs.Listed.{Listed}
 use Rattle.pair_enumeration.specs.Places.{class_at}
