@@ -12,3 +12,4 @@ pub mod SlackLine
 pub mod AddRow
 pub mod DropRow
 pub mod UnitSteps
+pub mod ShortNumbers

@@ -1,30 +1,33 @@
 //! One row of a dictionary's numbers.
-ghost use Rattle.std.specs.Prelude.{◌≡◌, ◌≢◌, ℕ, ◌<◌, ◌≤◌, ◌^◌, length, replicate, slice_set, slice_index_or, vec_capacity, List, [], ℤ, pos, ◌+ℤ◌, ◌-ℤ◌, ◌*ℤ◌, unsigned_abs};
-ghost use Rattle.wide_step.specs.Quotient.{HasQuotient};
+ghost use Rattle.std.specs.Prelude.{◌≡◌, ◌≢◌, ℕ, ◌<◌, ◌≤◌, ◌^◌, length, replicate, slice_set, slice_index_or, vec_capacity, List, [], ℤ, pos, ◌+ℤ◌, ◌-ℤ◌, ◌*ℤ◌, unsigned_abs, IsTrue};
+ghost use Rattle.wide_step.specs.Quotient.{HasQuotient, AreShort};
 ghost use Rattle.row_laws.specs.Rows.{entry};
 ghost use Rattle.fraction_free.specs.Changes.{with_sign, IsOtherLine, IsPivotLine, IsExchangedAt};
-ghost use Rattle.fraction_free.specs.Representation.{CanExchange, AreExchanged};
+ghost use Rattle.fraction_free.specs.Representation.{AreShortNumbers, CanExchange, AreExchanged};
 
 use crate::limits::{MAX_LINE, NUMBER_BOUND};
 use std::marker::Model;
-use wide_step::{Divisor, QUOTIENT_BOUND};
+use wide_step::{Divisor, QUOTIENT_BOUND, is_short};
 
 /// A list of at most 25 whole numbers: the entries of a row, and its constant.
 #[derive(Drop)]
 pub struct Line {
     cells: [i128; MAX_LINE],
     len: u8,
+    // that each number is short, so that a pivot looks at no size
+    short: bool,
 }
 
 impl Model for Line {
-    ghost use Rattle.std.specs.Prelude.{ℤ, ◌≤◌, List, take};
+    ghost use Rattle.std.specs.Prelude.{ℤ, ◌≡◌, ◌≤◌, List, take, true};
     ghost use Rattle.fraction_free.specs.declared.limits.TheConstants.{MAX_LINE};
+    ghost use Rattle.fraction_free.specs.Representation.{AreShortNumbers};
 
     ghost Value = { List ℤ };
 
     ghost view = { λ l. take l.len l.cells };
 
-    ghost invariant = { λ l. l.len ≤ MAX_LINE };
+    ghost invariant = { λ l. (l.len ≤ MAX_LINE) × (l.short ≡ true → AreShortNumbers (take l.len l.cells)) };
 }
 
 impl Line {
@@ -36,6 +39,7 @@ impl Line {
         Line {
             cells: [0; MAX_LINE],
             len: len as u8,
+            short: true,
         }
     }
 
@@ -46,6 +50,7 @@ impl Line {
         Line {
             cells: self.cells,
             len: self.len,
+            short: self.short,
         }
     }
 
@@ -71,8 +76,16 @@ impl Line {
         requires { place < length self.old }
         ensures { self.new ≡ slice_set self.old place value }
     {
+        self.short = self.short && is_short(value);
         let cells = &mut self.cells;
         cells[place] = value;
+    }
+
+    /// Whether it is known that each number is short.
+    fn is_short(&self) -> bool
+        ensures { IsTrue result → AreShortNumbers self.now }
+    {
+        self.short
     }
 }
 
@@ -94,9 +107,10 @@ impl Line {
         if factor == 0 && entry == scale.number() {
             return;
         }
+        let short = are_short(self, pivot);
         for place in 0..self.len() {
             if place != column {
-                self.exchange_at(place, entry, factor, pivot.get(place), scale);
+                self.exchange_at(place, entry, factor, pivot.get(place), scale, short);
             }
         }
         self.set(column, factor);
@@ -105,16 +119,25 @@ impl Line {
     /// One number after a pivot on another row, by the pivot's entry, the row's factor and the other
     /// row's number.
     #[inline]
-    fn exchange_at(&mut self, place: usize, lead: i128, factor: i128, other: i128, scale: &Divisor)
+    fn exchange_at(
+        &mut self,
+        place: usize,
+        lead: i128,
+        factor: i128,
+        other: i128,
+        scale: &Divisor,
+        short: bool,
+    )
         requires place { place < length self.old }
         requires entry_size { unsigned_abs lead < NUMBER_BOUND }
         requires number_size { unsigned_abs (entry self.old place) < NUMBER_BOUND }
         requires factor_size { unsigned_abs factor < NUMBER_BOUND }
         requires other_size { unsigned_abs other < NUMBER_BOUND }
         requires exact { HasQuotient (lead *ℤ entry self.old place -ℤ factor *ℤ other) scale.now }
+        requires sizes { IsTrue short → AreShort lead (entry self.old place) factor other }
         ensures { IsExchangedAt scale.now lead factor other self.old self.new place }
     {
-        let quotient = quotient_of(lead, self.get(place), factor, other, scale);
+        let quotient = quotient_of(lead, self.get(place), factor, other, scale, short);
         self.set(place, quotient);
     }
 
@@ -151,18 +174,36 @@ impl Line {
     }
 }
 
-/// The exact quotient by the old scale. Where entry and scale are 1, as in most pivots on rows of few differing
-/// increments, there is nothing to divide.
+/// Whether it is known that each number of both lines is short.
+fn are_short(line: &Line, other: &Line) -> bool
+    ensures { IsTrue result → AreShortNumbers line.now × AreShortNumbers other.now }
+{
+    line.is_short() && other.is_short()
+}
+
+/// The exact quotient by the old scale. Where it is known that all factors are short, as in most pivots on rows of few
+/// differing increments, no size is looked at; where entry and scale are 1, there is nothing to divide.
 #[inline]
-fn quotient_of(entry: i128, number: i128, factor: i128, other: i128, scale: &Divisor) -> i128
+fn quotient_of(
+    entry: i128,
+    number: i128,
+    factor: i128,
+    other: i128,
+    scale: &Divisor,
+    short: bool,
+) -> i128
     requires entry_size { unsigned_abs entry < NUMBER_BOUND }
     requires number_size { unsigned_abs number < NUMBER_BOUND }
     requires factor_size { unsigned_abs factor < NUMBER_BOUND }
     requires other_size { unsigned_abs other < NUMBER_BOUND }
     requires exact { HasQuotient (entry *ℤ number -ℤ factor *ℤ other) scale.now }
+    requires sizes { IsTrue short → AreShort entry number factor other }
     ensures quotient { result *ℤ scale.now ≡ entry *ℤ number -ℤ factor *ℤ other }
     ensures size { unsigned_abs result < QUOTIENT_BOUND }
 {
+    if short {
+        return scale.short_step(entry, number, factor, other);
+    }
     if entry == 1 && scale.number() == 1 {
         return number - factor * other;
     }

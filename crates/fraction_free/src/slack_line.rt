@@ -51,6 +51,9 @@ fn add_variable(line: &mut Line, lines: &[Line], place: usize, scale: i128, time
     requires line_sizes { (row at : ℕ) → unsigned_abs (entry (slice_index_or lines.now row []) at) < NUMBER_BOUND }
     ensures { IsAdded times line.old (factors_at scale lines.now (length line.old) place) line.new }
 {
+    if times == 0 {
+        return;
+    }
     let width = line.len();
     if place < width {
         let number = line.get(place) + times * scale;

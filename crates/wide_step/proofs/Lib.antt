@@ -2,3 +2,4 @@ pub mod Integers
 pub mod DividedLemmas
 pub mod Product
 pub mod Inverses
+pub mod Steps
