@@ -12,7 +12,7 @@ use Rattle.fraction_free.specs.declared.loaded.LoadedRow.{LoadedRow}
 use Rattle.fraction_free.specs.Dictionary.{DictionaryView, IsDictionary, loaded_at, no_row}
 use Rattle.fraction_free.specs.Changes.{empty_dictionary, next_count}
 use Rattle.criteria_model.specs.Worth.{increments}
-use Rattle.decider.specs.Standing.{rows_of, rows_of_answers, BeginsAt, StandsFor, HasRoom, KeepsRoom, RisesAtMost, BringsUp}
+use Rattle.decider.specs.Standing.{rows_of, rows_of_answers, BeginsAt, StandsFor, HasRoomForRows, KeepsRoom, RisesAtMost, BringsUp}
 
 pub begins_append : (l xs ys : List LoadedRow) (from : ℕ) → BeginsAt l xs from → BeginsAt l ys (from + length xs) → BeginsAt l (xs ++ ys) from
 begins_append l [] ys from h k = let e : from + 0 ≡ from = omega arith in subst (BeginsAt l ys) e k
@@ -261,7 +261,7 @@ brought_more levels answers start now new held at answer low lt e loaded columns
   dictionary = is;
 }
 
-pub brought_room : (levels : List ℕ) (answers : List Answer) (old start now : DictionaryView) (held at : ℕ) → at < length answers → HasRoom levels answers old → KeepsRoom old start
+pub brought_room : (levels : List ℕ) (answers : List Answer) (old start now : DictionaryView) (held at : ℕ) → at < length answers → HasRoomForRows levels answers old → KeepsRoom old start
     → BroughtSoFar levels answers start now held at → length now.loaded + 2 ≤ now.room_rows
 brought_room levels answers old start now held at lt room kept so =
     omega (arith, ap length so.stands.loaded, rows_len-most levels answers at, room.rows, kept.rows, so.room.rows)

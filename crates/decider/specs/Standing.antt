@@ -37,7 +37,7 @@ pub record StandsFor (levels : List ℕ) (answers : List Answer) (d : Dictionary
   pub loaded : d.loaded ≡ rows_of_answers levels answers
 
 -- room for the model's increments, for two rows an answer, and for two more
-pub record HasRoom (levels : List ℕ) (answers : List Answer) (d : DictionaryView) : Type 0 where
+pub record HasRoomForRows (levels : List ℕ) (answers : List Answer) (d : DictionaryView) : Type 0 where
   pub columns : increments levels ≤ d.room_columns
   pub rows : 2 * length answers + 2 ≤ d.room_rows
 

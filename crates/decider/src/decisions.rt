@@ -6,7 +6,7 @@ ghost use Rattle.criteria_model.specs.Pairs.{IsFit};
 ghost use Rattle.criteria_model.specs.Answers.{Ranks, MeetsAll};
 ghost use Rattle.fraction_free.specs.Dictionary.{IsDictionary};
 ghost use Rattle.simplex.specs.Rows.{MeetsRows, IsCoprime};
-ghost use Rattle.decider.specs.Standing.{rows_of, HasRoom, BringsUp};
+ghost use Rattle.decider.specs.Standing.{rows_of, HasRoomForRows, BringsUp};
 ghost use Rattle.decider.specs.Decisions.{IsDecision, IsExact, HasFewWeights};
 ghost use Rattle.decider.specs.Trying.{against, OpensRows, IsTried};
 
@@ -34,7 +34,7 @@ pub fn decide(
     requires answers_fit { All (λ answer. IsFit model.now.levels answer.pair) answers.now.answers }
     requires pair_fits { IsFit model.now.levels pair.now }
     requires meets { MeetsAll model.now.levels answers.now.answers point.now }
-    requires room { HasRoom model.now.levels answers.now.answers work.old }
+    requires room { HasRoomForRows model.now.levels answers.now.answers work.old }
     ensures decision { IsDecision model.now.levels answers.now.answers pair.now result }
     ensures exact { IsExact model.now.levels answers.now.answers pair.now result }
     ensures few { HasFewWeights result }

@@ -4,7 +4,7 @@ ghost use Rattle.criteria_model.specs.Pairs.{IsFit};
 ghost use Rattle.criteria_model.specs.Answers.{MeetsAll, Opens};
 ghost use Rattle.fraction_free.specs.Dictionary.{IsDictionary};
 ghost use Rattle.simplex.specs.Rows.{IsCoprime};
-ghost use Rattle.decider.specs.Standing.{HasRoom, BringsUp};
+ghost use Rattle.decider.specs.Standing.{HasRoomForRows, BringsUp};
 
 use crate::standing::bring_up;
 use crate::trial::point_for;
@@ -28,7 +28,7 @@ pub fn point_with(
     requires answers_fit { All (λ answer. IsFit model.now.levels answer.pair) answers.now.answers }
     requires pair_fits { IsFit model.now.levels pair.now }
     requires opens { Opens model.now.levels answers.now.answers pair.now plus.now minus.now }
-    requires room { HasRoom model.now.levels answers.now.answers work.old }
+    requires room { HasRoomForRows model.now.levels answers.now.answers work.old }
     ensures meets { MeetsAll model.now.levels (answers.now.answers ++ (record { pair = pair.now; side = side }) ∷ []) result }
     ensures reduced { IsCoprime result }
     ensures up { BringsUp model.now.levels answers.now.answers 2 work.old work.new }

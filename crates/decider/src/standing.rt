@@ -3,7 +3,7 @@ ghost use Rattle.std.specs.Prelude.{ℕ, ◌≡◌, ◌≤◌, ◌+◌, ◌*◌,
 ghost use Rattle.criteria_model.specs.Worth.{increments};
 ghost use Rattle.criteria_model.specs.Pairs.{IsFit};
 ghost use Rattle.fraction_free.specs.Dictionary.{IsDictionary};
-ghost use Rattle.decider.specs.Standing.{StandsFor, HasRoom, BringsUp};
+ghost use Rattle.decider.specs.Standing.{StandsFor, HasRoomForRows, BringsUp};
 
 use crate::rows::{add_rows, has_rows, row_count};
 use answer_rows::Answers;
@@ -38,7 +38,7 @@ pub fn standing(model: &Model, answers: &Answers, work: &Dictionary) -> Option<u
 /// Makes the dictionary stand for the answers, by the rows that it lacks.
 pub fn bring_up(model: &Model, answers: &Answers, work: &mut Dictionary)
     requires fit { All (λ answer. IsFit model.now.levels answer.pair) answers.now.answers }
-    requires room { HasRoom model.now.levels answers.now.answers work.old }
+    requires room { HasRoomForRows model.now.levels answers.now.answers work.old }
     ensures up { BringsUp model.now.levels answers.now.answers 0 work.old work.new }
     ensures dictionary { IsDictionary work.new }
 {

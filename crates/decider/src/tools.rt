@@ -5,7 +5,7 @@ ghost use Rattle.criteria_model.specs.Pairs.{IsFit};
 ghost use Rattle.criteria_model.specs.Answers.{Ranks, MeetsAll, Opens};
 ghost use Rattle.fraction_free.specs.Dictionary.{IsDictionary};
 ghost use Rattle.simplex.specs.Rows.{IsCoprime};
-ghost use Rattle.decider.specs.Standing.{StandsFor, HasRoom, KeepsRoom};
+ghost use Rattle.decider.specs.Standing.{StandsFor, HasRoomForRows, KeepsRoom};
 ghost use Rattle.decider.specs.Decisions.{IsDecision, IsExact, HasFewWeights};
 ghost use Rattle.decider.specs.Reserved.{IsReserved};
 ghost use Rattle.decider.specs.ToolDecisions.{AreReady, Decides};
@@ -132,7 +132,7 @@ fn solved(
     requires pair_fits { IsFit model.now.levels pair.now }
     requires meets { MeetsAll model.now.levels snapshot.now.answers.answers snapshot.now.point }
     requires ranked { Ranks model.now.levels snapshot.now.point pair.now verdict }
-    requires room { HasRoom model.now.levels snapshot.now.answers.answers work.old }
+    requires room { HasRoomForRows model.now.levels snapshot.now.answers.answers work.old }
     ensures decision { IsDecision model.now.levels snapshot.now.answers.answers pair.now result }
     ensures exact { IsExact model.now.levels snapshot.now.answers.answers pair.now result }
     ensures few { HasFewWeights result }

@@ -2,11 +2,13 @@
 //! that none does.
 //!
 //! `solve` pivots by the least-index rule, which ends (`least_index`), from any dictionary, fresh
-//! or warm. It takes no memory and leaves the rows as they were.
+//! or warm. `solve_last` finds the same by raising the row that was added last while the others
+//! stay feasible, mostly without a pivot, and solves only where that settles nothing; `settle`
+//! makes a dictionary feasible in this way. No call takes memory, and the rows stay as they were.
 //!
-//! Inside: `choice` has the rule's row and column, `solver` the loop, `point` the vector of a
-//! feasible dictionary, `clash` the weights of a blocked row's equation, `row_weights` a list of at
-//! most 25 weighted rows, `divisor` greatest common divisors.
+//! Inside: `choice` has the rule's row and column, `solver` the loop, `raise` the raised row,
+//! `point` the vector of a feasible dictionary, `clash` the weights of a blocked row's equation,
+//! `row_weights` a list of at most 25 weighted rows, `divisor` greatest common divisors.
 #![tactic(auto)]
 
 mod choice;

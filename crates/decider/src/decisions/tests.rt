@@ -4,7 +4,7 @@ ghost use Rattle.std.specs.Prelude.{◌≤◌, All, IfOk};
 ghost use Rattle.criteria_model.specs.Worth.{IsValueVector};
 ghost use Rattle.criteria_model.specs.Pairs.{IsFit};
 ghost use Rattle.criteria_model.specs.Answers.{MeetsAll};
-ghost use Rattle.decider.specs.Standing.{HasRoom};
+ghost use Rattle.decider.specs.Standing.{HasRoomForRows};
 
 use super::*;
 use crate::point::point_with;
@@ -89,8 +89,8 @@ fn certified(
     requires answers_fit { All (λ answer. IsFit model.now.levels answer.pair) answers.now.answers }
     requires pair_fits { IsFit model.now.levels pair.now }
     requires meets { MeetsAll model.now.levels answers.now.answers point.now }
-    requires room { HasRoom model.now.levels answers.now.answers work.old }
-    ensures { HasRoom model.now.levels answers.now.answers work.new }
+    requires room { HasRoomForRows model.now.levels answers.now.answers work.old }
+    ensures { HasRoomForRows model.now.levels answers.now.answers work.new }
 {
     match decide(model, answers, point, pair, work) {
         Decision::Undecided { plus, minus } => {
@@ -496,7 +496,7 @@ fn open_pairs(
 ) -> u32
     requires answers_fit { All (λ answer. IsFit model.now.levels answer.pair) answers.now.answers }
     requires meets { MeetsAll model.now.levels answers.now.answers point.now }
-    requires room { HasRoom model.now.levels answers.now.answers work.old }
+    requires room { HasRoomForRows model.now.levels answers.now.answers work.old }
     ensures { result ≤ 56 }
 {
     let mut open = 0;

@@ -7,10 +7,8 @@ pub try_side-requires-clause-room : goal.try_side-requires-clause-room
 try_side-requires-clause-room c =
     omega (
       arith,
-      c.rows-rows.ensures.value,
-      c.from.ensures,
-      c.row_total.ensures,
-      c.if-from-row_total.false,
+      c.add_rest.ensures.rows,
+      c.add_rest.ensures.room.rows,
       rows_length c.args.model.now.levels c.args.answers.now.answers,
       rows_len-whole c.args.model.now.levels c.args.answers.now.answers,
       c.requires.room.rows,
