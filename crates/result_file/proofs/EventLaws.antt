@@ -1,8 +1,9 @@
 -- What the line of an event does to the history before it.
-use Rattle.std.proofs.Common.{◌≡◌, ◌≢◌, ℕ, ◌-◌, ◌<◌, ◌≤◌, List, [], ◌∷◌, ◌++◌, length, refl, ap, ◌∙◌, None, Some}
+use Rattle.std.proofs.Common.{◌≡◌, ◌≢◌, ℕ, ◌-◌, ◌<◌, ◌≤◌, List, [], ◌∷◌, ◌++◌, length, refl, ap, subst, ◌∙◌, None, Some}
+use Rattle.std.specs.Prelude.{Option, MatchOption}
 use Rattle.std.proofs.lemmas.List.Elements.{All-nil, All-cons, All-append}
 use Rattle.criteria_model.specs.declared.pairs.Pair.{Pair}
-use Rattle.pair_enumeration.specs.Listed.{Listed}
+use Rattle.pair_enumeration.specs.Listed.{Listed, IsListed}
 use Rattle.pair_enumeration.specs.Places.{class_at}
 use Rattle.survey_core.specs.declared.events.Event.{Event}
 use Rattle.survey_core.specs.declared.events.Event.TheVariants as events
@@ -24,6 +25,8 @@ use Rattle.result_file.specs.Checked.{begun, Fails}
 use Rattle.result_file.specs.Contents.{of_events}
 use Rattle.result_file.specs.Entries.{HasEntryForm, ReadsEntry}
 use Rattle.result_file.specs.Events.{pair_at_place, as_entry, NamesClass, Tells}
+use Rattle.result_file.specs.EventLines.{IsEventLine}
+use Rattle.result_file.proofs.EventOnce.{is_class_there}
 use Rattle.result_file.specs.Kept.{KeptSurvey, AddsEvent}
 use Rattle.result_file.specs.Parts.{part_of}
 use Rattle.result_file.specs.RightEvents.{NamesNoClass, EntryFailsAs}
@@ -129,3 +132,30 @@ adds_event old new line entry event form spelled room tells format listed histor
         rw (format, listed, history) (All-append P old.survey.history (event ∷ []) h.forms (All-cons P event [] (rw tells.told at form) (All-nil P)));
   };
 }
+
+-- ---- a line by itself
+
+reads_event : (listed : Listed) (line : List ℕ) (entry : Entry) (event : Event) → ReadsEntry Two listed.criteria line (Some entry) → Tells listed entry event
+    → IsEventLine listed line event
+reads_event listed line entry event reads tells = record {
+  class = tells.class;
+  form = rw tells.told at reads.sound.1;
+  spelled = reads.sound.0 ∙ ap entry_line tells.told;
+}
+
+names_one : (listed : Listed) (event : Event) → IsListed listed → NamesClass listed event → ¬ NamesNoClass listed.criteria (as_entry listed.classes event)
+names_one listed (events.Eliminate worker place verdict combination) list named none = none (is_class_there listed place list named)
+names_one listed (events.Issue desk place plus minus) list named none = none (is_class_there listed place list named)
+names_one listed (events.Commit desk question side plus minus point) list named none = none
+names_one listed (events.Close desk question) list named none = none
+names_one listed (events.Withdraw desk answer) list named none = none
+
+pub read_as : (listed : Listed) (line : List ℕ) (entry : Entry) (read : Option Event) → IsListed listed → ReadsEntry Two listed.criteria line (Some entry)
+    → MatchOption read (NamesNoClass listed.criteria entry) (λ event. Tells listed entry event)
+    → MatchOption read ((event : Event) → ¬ IsEventLine listed line event) (λ event. IsEventLine listed line event)
+read_as listed line entry None list reads none =
+    λ event h.
+    let same : Some entry ≡ Some (as_entry listed.classes event) = reads.complete (as_entry listed.classes event) h.spelled h.form in
+    let is : entry ≡ as_entry listed.classes event = cc in
+    names_one listed event list h.class (subst (λ (e : Entry). NamesNoClass listed.criteria e) is none)
+read_as listed line entry (Some event) list reads tells = reads_event listed line entry event reads tells

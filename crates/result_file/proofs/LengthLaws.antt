@@ -75,7 +75,7 @@ length6 a b c d e f = omega (arith, length3 (a ++ b ++ c ++ d) e f, length3 (a +
 -- ---- the model line
 
 -- no criterion has more levels than there are increments, and one
-levels_within : (levels : List ℕ) (most : ℕ) → increments levels ≤ most → All (λ n. n ≤ most + 1) levels
+pub levels_within : (levels : List ℕ) (most : ℕ) → increments levels ≤ most → All (λ n. n ≤ most + 1) levels
 levels_within [] most few = λ k d within. absurd (omega arith)
 levels_within (n ∷ levels) most few =
     let all : increments (n ∷ levels) ≡ (n - 1) + increments levels = sum_by-cons (λ (m : ℕ). m - 1) n levels in

@@ -1,4 +1,8 @@
 pub mod LineLaws
+pub mod ListedLemmas
+pub mod OutLemmas
+pub mod FormLemmas
+pub mod JournalLemmas
 pub mod EliminationLaws
 pub mod ClaimLaws
 pub mod EntryLaws

@@ -4,6 +4,8 @@ pub mod Parts
 pub mod Forms
 pub mod Entries
 pub mod Events
+pub mod EventLines
+pub mod Numbers
 pub mod RightClaims
 pub mod RightEvents
 pub mod Contents
@@ -17,4 +19,5 @@ pub mod Progress
 pub mod Stops
 pub mod Verdicts
 pub mod Words
+pub mod Files
 pub mod Laws

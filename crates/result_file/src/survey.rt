@@ -1,10 +1,12 @@
 //! The events of a result, one after the other.
 ghost use Rattle.std.specs.Prelude.{◌≡◌, ◌≢◌, ◌↔◌, ◌+◌, ◌<◌, ◌≤◌, [], length, OnOk, IfOk, IfErr, MatchOption, IsTrue};
+ghost use Rattle.survey_core.specs.declared.events.Event.{Event as SurveyEvent};
 ghost use Rattle.survey_core.specs.Laws.{RanksEachClass};
 ghost use Rattle.result_file.specs.Checked.{begun};
 ghost use Rattle.result_file.specs.Stops.{StopsAt};
 ghost use Rattle.result_file.specs.Contents.{of_events};
 ghost use Rattle.result_file.specs.Events.{Tells};
+ghost use Rattle.result_file.specs.EventLines.{IsEventLine};
 ghost use Rattle.result_file.specs.Kept.{StartsSurvey, AddsEvent};
 ghost use Rattle.result_file.specs.RightEvents.{NamesNoClass};
 ghost use Rattle.result_file.specs.Texts.{end_line};
@@ -95,6 +97,19 @@ impl Survey {
     {
         self.core.all_ranked()
     }
+}
+
+/// The event that a line of a result in the second format spells, for the model of `core`, whether or not it may follow there.
+pub fn read_event(line: &[u8], core: &Core) -> Option<Event>
+    ensures { MatchOption result
+        ((event : SurveyEvent) → ¬ IsEventLine core.now.listed line.now event)
+        (λ event. IsEventLine core.now.listed line.now event) }
+{
+    let model = core.model();
+    let criteria = usize::from(model.criteria());
+    let increments = usize::from(model.increments());
+    let entry = entry_of(line, Format::Two, criteria, increments)?;
+    event_of(core, &entry)
 }
 
 /// The event that an entry stands for, or none where its pair isn't a class.
