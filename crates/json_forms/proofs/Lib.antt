@@ -1,5 +1,11 @@
 mod ArrayLemmas
+mod DegreeLemmas
+mod EachLemmas
 mod LevelLemmas
 mod MemberLemmas
+mod NameLemmas
 mod NumberLemmas
+mod NumberedLemmas
 mod ObjectLemmas
+mod RepeatLemmas
+mod VectorLemmas

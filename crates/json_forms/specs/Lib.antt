@@ -4,3 +4,8 @@ pub mod Sides
 pub mod Messages
 pub mod Json
 pub mod Replies
+pub mod Vectors
+pub mod DefinitionViews
+pub mod EntryViews
+pub mod DefinitionForm
+pub mod Definitions

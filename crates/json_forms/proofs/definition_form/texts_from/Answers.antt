@@ -1,0 +1,27 @@
+use Rattle.std.proofs.Common.{Some, None, map, option_map, ap, sym, ◌∙◌, string_bytes}
+use Rattle.serde_json.specs.View.{view}
+use Rattle.serde_json.specs.Find.{as_str}
+use Rattle.json_forms.proofs.EachLemmas.{IsReadTo-start, IsReadTo-push, IsReadTo-none, IsReadTo-end, array_read}
+use Rattle.json_forms.proofs.definition_form.texts_from.Goals as goal
+
+pub loop-item-init : goal.loop-item-init
+loop-item-init c = rw c.new-found.ensures.items (IsReadTo-start as_str c.deref-item-items.result.now)
+
+pub returns-in_default-2 : goal.returns-in_default-2
+returns-in_default-2 c =
+    let vs = c.deref-item-items.result.now in
+    array_read as_str (view c.args.value.now) vs c.in-Some.items.now.items None c.in-Some.ensures c.deref-item-items.ensures.value
+    (IsReadTo-none as_str vs c.loop-item.item-index (map string_bytes c.loop-item.found.items) c.item-item.result c.loop-item-test.true c.item-item.is
+    (sym c.in_ok-text.ensures ∙ ap (option_map string_bytes) c.in_default-2.is) c.loop-item.invariant)
+
+pub loop-item-preserved : goal.loop-item-preserved
+loop-item-preserved c =
+    let vs = c.deref-item-items.result.now in
+    IsReadTo-push as_str string_bytes vs c.loop-item.item-index c.loop-item.found.items _ c.in-Some-2.text c.item-item.result c.loop-item-test.true c.item-item.is
+    (sym c.in_ok-text.ensures ∙ ap (option_map string_bytes) c.in-Some-2.is) c.in_ok-push.ensures.items c.loop-item.invariant
+
+pub returns : goal.returns
+returns c =
+    let vs = c.deref-item-items.result.now in
+    array_read as_str (view c.args.value.now) vs c.in-Some.items.now.items (Some (map string_bytes c.loop-item.found.items)) c.in-Some.ensures c.deref-item-items.ensures.value
+    (IsReadTo-end as_str vs c.loop-item.item-index (map string_bytes c.loop-item.found.items) c.loop-item-test.false c.loop-item.invariant)
