@@ -93,6 +93,17 @@ not_and_is : (b : Bool) → not b ≡ true → b ≡ true → ⊥
 not_and_is true h is = let both : false ≡ true = h in cc
 not_and_is false h is = let both : false ≡ true = is in cc
 
+pub open_uncommitted : (listed : Listed) (history : List Event) → IsSound listed history → (question place : ℕ) → IsOpenQuestion history question
+    → place_of (issued history) question ≡ Some place → is_committed history place ≡ false
+open_uncommitted listed history sound question place is asks =
+    let found : (1 ≤ question) × (question < 1 + length (issued history)) × (is_unended history question ≡ true) =
+    filtered_range (is_unended history) 1 (length (issued history)) question is in
+    not_true (is_committed history place)
+    (λ some.
+    let ended : list_any (ends question) (standing history) ≡ true =
+    commits_question listed history sound question place found.0 asks 0 (standing history) sound.each some in
+    not_and_is (list_any (ends question) (standing history)) found.2 ended)
+
 unranked_by : (ranking : Ranking) → is_ranking ranking ≡ false → ranking ≡ Unranked
 unranked_by Unranked h = refl
 unranked_by (Eliminated level) h = absurd (let both : true ≡ false = h in cc)
@@ -156,13 +167,7 @@ module _ (listed : Listed) (history : List Event) (answers : AnswersWithRoom) (t
       let asks : place_of (issued history) number ≡ Some question.place = asks_at kept.table_of number question found.0 at in
       let eliminated : is_eliminated history question.place ≡ false =
       at_some (place_of (issued history) number) (λ place. is_eliminated history place ≡ false) question.place asks may.uneliminated in
-      let uncommitted : is_committed history question.place ≡ false =
-      not_true (is_committed history question.place)
-      (λ some.
-      let ended : list_any (ends number) (standing history) ≡ true =
-      commits_question listed history sound number question.place found.0 asks 0 (standing history) sound.each some in
-      not_and_is (list_any (ends number) (standing history)) found.2 ended) in
-      ap (λ b. b || is_committed history question.place) eliminated ∙ uncommitted
+      ap (λ b. b || is_committed history question.place) eliminated ∙ open_uncommitted listed history sound number question.place may.open_question asks
 
   -- ---- one more event
   abbrev KeepsWith : Event → AnswersWithRoom → Table → ℕ → Type 0

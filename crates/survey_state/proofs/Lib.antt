@@ -3,3 +3,7 @@ pub mod RankedLemmas
 pub mod PoolLemmas
 pub mod PointLemmas
 pub mod JournalLemmas
+pub mod ReplyLemmas
+pub mod FindingLemmas
+pub mod StepLemmas
+pub mod SoloLemmas

@@ -1,11 +1,13 @@
 -- The points that a `State` keeps of the answers that stand.
-use Rattle.std.proofs.Common.{◌≡◌, ℕ, zero, suc, ◌+◌, ◌-◌, ◌<◌, true, false, List, [], ◌∷◌, ◌++◌, length, map, take, replicate, Option, Some, None, ℤ, pos, append-nil, length-append, refl, ap, sym, ◌∙◌, arith}
+use Rattle.std.proofs.Common.{◌≡◌, ℕ, zero, suc, ◌+◌, ◌-◌, ◌<◌, ◌≤◌, true, false, List, [], ◌∷◌, ◌++◌, length, map, take, replicate, Option, Some, None, ℤ, pos, append-nil, length-append, refl, ap, sym, ◌∙◌, arith}
 use Rattle.std.specs.Option.{option_map}
 use Rattle.std.specs.List.{filter_map, fold, cons_option}
 use Rattle.std.proofs.lemmas.List.{length-map}
 use Rattle.std.proofs.lemmas.List.Elements.{filter_map-append}
-use Rattle.std.proofs.lemmas.Option.{slice_get-map}
+use Rattle.std.proofs.lemmas.Option.{none-some, slice_get-map}
+use Rattle.criteria_model.specs.declared.pairs.Answer.{Answer}
 use Rattle.criteria_model.specs.Worth.{increments}
+use Rattle.row_laws.proofs.ItemLemmas.{item_inside, item_positive}
 use Rattle.pair_enumeration.specs.Listed.{Listed, IsListed}
 use Rattle.survey_core.specs.declared.events.Event.{Event}
 use Rattle.survey_core.specs.declared.events.Event.TheVariants.{Eliminate, Issue, Commit, Close, Withdraw}
@@ -122,3 +124,27 @@ last_question_is history =
     sym (item_mapped (λ last. last.question) points (length points))
     ∙ ap (λ n. item_at (map (λ last. last.question) points) n) (sym (length-map points (λ last. last.question)))
     ∙ ap (λ (l : List ℕ). item_at l (length l)) same
+
+-- ---- how many they are
+pub answered_count : (listed : Listed) (history : List Event) → IsLegal listed history → length (answered history) ≡ length (committed listed.classes history)
+answered_count listed history legal =
+    let points : List AnswerPoint = points_in history in
+    ap (λ (l : List ℕ). length l) (sym (mapped (λ last. last.question) answered_question question_same (standing history)))
+    ∙ length-map points (λ last. last.question) ∙ points_count listed history legal
+
+pub none_answered : (listed : Listed) (history : List Event) → IsLegal listed history → item_at (answered history) (length (answered history)) ≡ None
+    → committed listed.classes history ≡ []
+none_answered listed history legal none = go (committed listed.classes history) refl
+  where
+    go : (answers : List Answer) → answers ≡ committed listed.classes history → committed listed.classes history ≡ []
+    go [] is = sym is
+    go (answer ∷ answers) is =
+        let some : 1 ≤ length (answered history) = omega (arith, answered_count listed history legal, ap (λ (l : List Answer). length l) is) in
+        let last : (question : ℕ) × (item_at (answered history) (length (answered history)) ≡ Some question) =
+        item_inside (answered history) (length (answered history)) some (omega arith) in
+        absurd (none-some last.0 (sym none ∙ last.1))
+
+pub some_answered : (listed : Listed) (history : List Event) (question : ℕ) → IsLegal listed history
+    → item_at (answered history) (length (answered history)) ≡ Some question → 1 ≤ length (committed listed.classes history)
+some_answered listed history question legal some =
+    omega (arith, answered_count listed history legal, item_positive (answered history) (length (answered history)) question some)

@@ -287,7 +287,7 @@ few_committed listed history model legal =
     let now : Held listed history = held_whole listed history model legal in
     omega (arith, few_answers _ _ _ _ _ _ now.kept, ap (λ (l : List Answer). length l) now.kept.answered)
 
-legal_front : (listed : Listed) (history more : List Event) → IsLegal listed (history ++ more) → IsLegal listed history
+pub legal_front : (listed : Listed) (history more : List Event) → IsLegal listed (history ++ more) → IsLegal listed history
 legal_front listed history more legal k event at =
     subst (λ (before : List Event). IsEvent listed.criteria.levels event × MayFollow listed before event)
     (take-append-le k history more (omega (arith, slice_get_within history k event at))) (legal k event (slice_get-append history more k event at))

@@ -12,13 +12,28 @@
 //! may follow up to the next withdrawal, which `make_room` prepares.
 #![tactic(auto)]
 
+mod access;
+mod answer;
+mod calls;
+mod findings;
 mod front;
 mod journal;
 pub mod laws;
+mod next;
 mod offer;
 mod points;
 mod pool;
+mod recording;
+mod solo;
 mod state;
+mod values;
+mod withdrawal;
 
+pub use access::Access;
+pub use answer::answer_by;
+pub use next::next_by;
 pub use offer::Offer;
+pub use solo::Solo;
 pub use state::State;
+pub use values::values_by;
+pub use withdrawal::withdraw_by;
