@@ -165,3 +165,6 @@ impl Respondent for Solo {
         withdraw_by(&mut self.held, DESK)
     }
 }
+
+#[cfg(test)]
+mod tests;

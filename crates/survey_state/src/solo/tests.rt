@@ -1,0 +1,229 @@
+ghost use Rattle.std.specs.Prelude.{◌≤◌, length};
+
+use super::*;
+use std::process::Abort;
+use std::test::Fail;
+
+/// What is asked.
+#[derive(Clone, Copy)]
+enum Ask {
+    Next,
+    Answer(u32, Side),
+    Values,
+    Withdraw,
+}
+
+/// What a reply says: its certificates and its place in the journal left out.
+#[derive(Clone, Copy, PartialEq, Eq, Debug)]
+enum Said {
+    Asks { number: u32, place: u32 },
+    Full,
+    Waiting(u32),
+    Complete,
+    Accepted(u32),
+    Unknown(u32),
+    Closed(u32),
+    Implied(u32, Side),
+    Values,
+    Incomplete(u32),
+    Withdrawn { answer: u32, question: u32 },
+    Nothing,
+    Spent,
+}
+
+/// The reply of a respondent who waits for nobody.
+fn say<R: Respondent>(respondent: &mut R, ask: Ask) -> Result<Said, Fail>
+    requires { R.can_wait }
+{
+    Ok(match ask {
+        Ask::Next => next_said(&respondent.next()),
+        Ask::Answer(question, side) => answer_said(&respondent.answer(question, side)),
+        Ask::Values => values_said(&respondent.values()),
+        Ask::Withdraw => withdraw_said(&respondent.withdraw()?),
+    })
+}
+
+fn next_said(reply: &NextReply) -> Said {
+    match reply {
+        NextReply::Question { number, place, .. } => Said::Asks {
+            number: *number,
+            place: *place,
+        },
+        NextReply::Full { .. } => Said::Full,
+        NextReply::Waiting { place, .. } => Said::Waiting(*place),
+        NextReply::Complete { .. } => Said::Complete,
+    }
+}
+
+fn answer_said(reply: &AnswerReply) -> Said {
+    match reply {
+        AnswerReply::Accepted { question, .. } => Said::Accepted(*question),
+        AnswerReply::Unknown { question, .. } => Said::Unknown(*question),
+        AnswerReply::Closed { question, .. } => Said::Closed(*question),
+        AnswerReply::Implied {
+            question,
+            verdict,
+            ..
+        } => Said::Implied(*question, *verdict),
+    }
+}
+
+fn values_said(reply: &ValuesReply) -> Said {
+    match reply {
+        ValuesReply::Values { .. } => Said::Values,
+        ValuesReply::Incomplete { place, .. } => Said::Incomplete(*place),
+    }
+}
+
+fn withdraw_said(reply: &WithdrawReply) -> Said {
+    match reply {
+        WithdrawReply::Withdrawn {
+            answer,
+            question,
+            ..
+        } => Said::Withdrawn {
+            answer: *answer,
+            question: *question,
+        },
+        WithdrawReply::Nothing { .. } => Said::Nothing,
+        WithdrawReply::Spent { .. } => Said::Spent,
+    }
+}
+
+/// A wish for a question, which is asked.
+fn asks(number: u32, place: u32) -> (Ask, Said) {
+    (Ask::Next, Said::Asks { number, place })
+}
+
+/// An answer, which is accepted.
+fn given(question: u32, side: Side) -> (Ask, Said) {
+    (Ask::Answer(question, side), Said::Accepted(question))
+}
+
+/// An answer taken back.
+fn withdrawn(answer: u32, question: u32) -> (Ask, Said) {
+    (Ask::Withdraw, Said::Withdrawn { answer, question })
+}
+
+/// The replies of a survey of a model to a talk, where one isn't as said: its number and what was said instead.
+fn first_other(
+    alloc: Global,
+    levels: &[u32],
+    degree: u32,
+    talk: &[(Ask, Said)],
+) -> Result<Option<(usize, Said)>, Fail>
+    requires { length levels.now ≤ 24 }
+{
+    let model = Model::new(levels, degree).ok().ok_or("model")?;
+    let mut solo = Solo::new(alloc, &model)?;
+    for (number, (ask, said)) in talk.iter().enumerate() {
+        let reply = say(&mut solo, *ask)?;
+        if reply != *said {
+            return Ok(Some((number, reply)));
+        }
+    }
+    Ok(None)
+}
+
+const LEFT: Side = Side::Left;
+
+const RIGHT: Side = Side::Right;
+
+const EQUAL: Side = Side::Equal;
+
+const COMPLETE: (Ask, Said) = (Ask::Next, Said::Complete);
+
+/// Surveys with each kind of reply: one criterion, two by two, always left, implied and closed questions, an equal answer,
+/// four open questions, answers taken back, and a class that an increment proves.
+#[test]
+fn worked_surveys(rt: HostRuntime) -> Result<(), Fail> {
+    let three: [u32; 3] = [2, 2, 2];
+    let one_criterion = [COMPLETE, (Ask::Values, Said::Values)];
+    let two_by_two = [
+        asks(1, 1),
+        (Ask::Next, Said::Waiting(1)),
+        given(1, LEFT),
+        COMPLETE,
+    ];
+    let always_left = [
+        (Ask::Values, Said::Incomplete(1)),
+        asks(1, 1),
+        given(1, LEFT),
+        asks(2, 2),
+        given(2, LEFT),
+        asks(3, 3),
+        given(3, LEFT),
+        asks(4, 4),
+        given(4, LEFT),
+        COMPLETE,
+    ];
+    let implied_answer = [
+        asks(1, 1),
+        asks(2, 2),
+        asks(3, 3),
+        given(1, LEFT),
+        given(3, LEFT),
+        (Ask::Answer(2, LEFT), Said::Implied(2, LEFT)),
+        (Ask::Answer(99, LEFT), Said::Unknown(99)),
+        (Ask::Answer(1, LEFT), Said::Closed(1)),
+        (Ask::Answer(2, LEFT), Said::Closed(2)),
+        withdrawn(2, 3),
+        given(2, LEFT),
+    ];
+    let equal_then_left = [
+        asks(1, 1),
+        given(1, EQUAL),
+        asks(2, 2),
+        given(2, LEFT),
+        COMPLETE,
+    ];
+    let four_open_full = [
+        asks(1, 1),
+        asks(2, 2),
+        asks(3, 3),
+        asks(4, 4),
+        (Ask::Next, Said::Full),
+    ];
+    let withdraw_nothing = [(Ask::Withdraw, Said::Nothing)];
+    let withdraw_then_answer = [asks(1, 1), given(1, LEFT), withdrawn(1, 1), given(1, RIGHT)];
+    let implied_by_increment = [asks(1, 1), given(1, LEFT), asks(2, 3)];
+    let rows: [(&str, &[u32], u32, &[(Ask, Said)]); 9] = [
+        ("one criterion", &[25], 1, &one_criterion),
+        ("two by two", &[2, 2], 2, &two_by_two),
+        ("always left", &three, 3, &always_left),
+        ("implied answer", &three, 3, &implied_answer),
+        ("equal then left", &three, 3, &equal_then_left),
+        ("four open, full", &three, 3, &four_open_full),
+        ("withdraw nothing", &three, 3, &withdraw_nothing),
+        ("withdraw then answer", &three, 3, &withdraw_then_answer),
+        ("implied by increment", &[3, 2], 2, &implied_by_increment),
+    ];
+    for (name, levels, degree, talk) in rows {
+        assert!(rt;
+            first_other(rt.alloc(), levels, degree, talk)?.is_none(),
+            "{name}"
+        );
+    }
+    Ok(())
+}
+
+/// How often the answer to question 1 is given and taken back before no further withdrawal is allowed.
+fn withdrawals_until_spent(solo: &mut Solo) -> Result<Option<u32>, Fail> {
+    for taken_back in 0..20_000u32 {
+        let _given = say(solo, Ask::Answer(1, LEFT))?;
+        if say(solo, Ask::Withdraw)? == Said::Spent {
+            return Ok(Some(taken_back));
+        }
+    }
+    Ok(None)
+}
+
+/// An answer may be taken back as often as the limit of events allows, and no more.
+#[test]
+fn withdrawals_to_the_bound(rt: HostRuntime) -> Result<(), Fail> {
+    let model = Model::new(&[2, 2, 2], 3).ok().ok_or("model")?;
+    let mut solo = Solo::new(rt.alloc(), &model)?;
+    let _asked = say(&mut solo, Ask::Next)?;
+    assert_eq!(rt; withdrawals_until_spent(&mut solo)?, Some(10_081));
+    Ok(())
+}
