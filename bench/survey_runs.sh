@@ -11,6 +11,8 @@ failed=0
 if [ ! -x "$bench" ]; then
     (cd "$here/../crates/survey_bench" && rt run) >/dev/null || exit 1
 fi
+"$here/../paprika" check <"$here/../examples/claims.txt" >/dev/null || exit 1
+checker=$here/../crates/paprika/out/paprika
 
 judge() { # the pattern of a right answer, who judges, and the words of the run
     wanted=$1
@@ -19,7 +21,7 @@ judge() { # the pattern of a right answer, who judges, and the words of the run
     "$bench" "$@" >"$folder/run" || failed=1
     case $judge in
     oracle) found=$(python3 "$here/survey_oracle.py" <"$folder/run") ;;
-    check) found=$("$here/../paprika" check <"$folder/run") ;;
+    check) found=$("$checker" check <"$folder/run") ;;
     esac
     case $found in
     $wanted) ;;

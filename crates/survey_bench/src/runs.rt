@@ -7,14 +7,15 @@ use crate::draws::Draws;
 use crate::exchanges::exchange;
 use crate::output::Output;
 use crate::requests::Request;
+use crate::timings::Call;
 use criteria_model::{Model, Vector};
 use json_forms::Reply;
 use std::alloc::Global;
 use std::io;
-use std::time::{CpuClock, Duration};
+use std::time::CpuClock;
 use survey_replies::{NextReply, Respondent};
 
-/// Answers each new question by hidden values, until none comes, and gives the processor time of each `next`.
+/// Answers each new question by hidden values, until none comes, and gives what each `next` took.
 pub fn answer_all<R: Respondent, P: Print + CpuClock>(
     rt: &P,
     alloc: Global,
@@ -22,19 +23,21 @@ pub fn answer_all<R: Respondent, P: Print + CpuClock>(
     model: &Model,
     hidden: &Vector,
     output: &mut Output,
-) -> io::Result<Vec<Duration>>
+) -> io::Result<Vec<Call>>
     requires waits { R.can_wait }
     requires desk { IsOf model.now (R.listed (R.about desk.old)) }
     requires hidden { length hidden.now ≡ increments model.now.levels }
     ensures desk { IsOf model.now (R.listed (R.about desk.new)) }
 {
-    let mut times = Vec::new(alloc);
+    let mut calls = Vec::new(alloc);
     for _ in 0..u64::from(model.class_count()) + 1 {
-        let before = rt.thread_cpu_time()?;
+        let (start, length) = (rt.thread_cpu_time()?, desk.length());
         let reply = exchange(rt, desk, model, Request::Next, output)?;
-        times.push(rt.thread_cpu_time()?.saturating_sub(before))?;
+        let time = rt.thread_cpu_time()?.saturating_sub(start);
+        let events = desk.length().saturating_sub(length);
+        calls.push(Call { time, events })?;
         let Reply::Next(NextReply::Question { number, pair, .. }) = reply else {
-            return Ok(times);
+            return Ok(calls);
         };
         let answer = Request::Answer {
             question: number,
@@ -42,7 +45,7 @@ pub fn answer_all<R: Respondent, P: Print + CpuClock>(
         };
         exchange(rt, desk, model, answer, output)?;
     }
-    Ok(times)
+    Ok(calls)
 }
 
 /// Makes requests at random.

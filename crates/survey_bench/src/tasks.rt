@@ -67,10 +67,10 @@ fn write_times(rt: &impl Print, model: &Model, counts: &Counts, times: &Times) -
     } = counts;
     let classes = model.class_count();
     let total = times.total.as_micros();
-    let early = times.early.as_micros();
-    let late = times.late.as_micros();
+    let early = times.early.as_nanos();
+    let late = times.late.as_nanos();
     println!(rt;
         "classes {classes} questions {asked} eliminated by one answer {by_one} by more {by_more}"
     )?;
-    println!(rt; "microseconds in all {total} a question early {early} late {late}")
+    println!(rt; "questions took {total} microseconds, a class {early} ns early and {late} ns late")
 }
