@@ -9,7 +9,6 @@ use crate::definition_faults::MAX_NAME;
 use crate::definition_form::DefinitionForm;
 
 /// Whether the names and codes of the form are names.
-#[tactic(auto, using(crate::proofs::NameLemmas::all_seen))]
 pub(crate) fn has_names(form: &DefinitionForm) -> bool
     ensures { result ≡ has_names_of form.now }
 {
@@ -25,7 +24,6 @@ fn criteria_have_names(criteria: &[(String, Vec<String>)]) -> bool
         .all(|criterion| criterion_has_names(criterion))
 }
 
-#[tactic(auto, using(crate::proofs::NameLemmas::all_seen))]
 fn criterion_has_names(criterion: &(String, Vec<String>)) -> bool
     ensures { result ≡ has_criterion_names (criterion_view criterion.now) }
 {

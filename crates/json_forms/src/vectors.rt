@@ -88,3 +88,6 @@ fn positive_number(text: &[u8]) -> Option<i128>
     }
     Some(number)
 }
+
+#[cfg(test)]
+mod tests;

@@ -157,3 +157,116 @@ fn faults_in_their_order(rt: HostRuntime) -> Result<(), Fail> {
     }
     Ok(())
 }
+
+/// The fault of a line with a criterion's name of this length and this number of respondents.
+fn fault_by(
+    alloc: Global,
+    length: usize,
+    respondents: u32,
+) -> Result<Option<DefinitionFault>, NoMemory> {
+    let name = "x".repeat(alloc, length)?;
+    let mut line = format!(in alloc;
+        "{{\"criteria\":[{{\"levels\":[\"x\",\"y\"],\"name\":\"{name}\"}}],\"degree\":1,\"respondents\":["
+    )?;
+    for number in 1..=respondents {
+        if number > 1 {
+            line.push(',')?;
+        }
+        let respondent = format!(in alloc; "{{\"code\":\"k\",\"name\":\"r{number}\"}}")?;
+        line.push_str(&respondent)?;
+    }
+    line.push_str("]}")?;
+    fault_of(alloc, line.as_bytes())
+}
+
+#[test]
+fn limits_of_names_and_respondents(rt: HostRuntime) -> Result<(), Fail> {
+    let name = Some(DefinitionFault::Name);
+    let respondents = Some(DefinitionFault::Respondents);
+    let table = [
+        (0, 1, name),
+        (1, 1, None),
+        (64, 16, None),
+        (65, 1, name),
+        (1, 0, respondents),
+        (65, 17, respondents),
+    ];
+    for (length, count, fault) in table {
+        assert!(rt;
+            fault_by(rt.alloc(), length, count)? == fault,
+            "{length} {count}"
+        );
+    }
+    Ok(())
+}
+
+#[test]
+fn too_many_classes(rt: HostRuntime) -> Result<(), Fail> {
+    // for each number d of criteria from 2 to 15, the ways to take them times 2^(d-1) - 1: (3^15 + 1) / 2 - 2^15 together
+    let line =
+        br#"{"criteria":[{"levels":["x","y"],"name":"1"},{"levels":["x","y"],"name":"2"},{"levels":["x","y"],"name":"3"},{"levels":["x","y"],"name":"4"},{"levels":["x","y"],"name":"5"},{"levels":["x","y"],"name":"6"},{"levels":["x","y"],"name":"7"},{"levels":["x","y"],"name":"8"},{"levels":["x","y"],"name":"9"},{"levels":["x","y"],"name":"10"},{"levels":["x","y"],"name":"11"},{"levels":["x","y"],"name":"12"},{"levels":["x","y"],"name":"13"},{"levels":["x","y"],"name":"14"},{"levels":["x","y"],"name":"15"}],"degree":15,"respondents":[]}"#;
+    let fault = DefinitionFault::Model(ModelFault::Classes { count: 7_141_686 });
+    assert!(rt; fault_of(rt.alloc(), line)? == Some(fault));
+    Ok(())
+}
+
+#[test]
+fn look_ups(rt: HostRuntime) -> Result<(), Fail> {
+    let Ok(definition) = read_definition(rt.alloc(), LINE) else {
+        assert!(rt; false);
+        return Ok(());
+    };
+    assert_eq!(rt; definition.respondents(), 2);
+    let names: [(&[u8], Option<u32>); 4] = [
+        (b"ana", Some(1)),
+        (b"bo", Some(2)),
+        (b"k1", None),
+        (b"\xff", None),
+    ];
+    for (name, number) in names {
+        assert!(rt; definition.respondent(name) == number, "{name:?}");
+    }
+    let codes: [(u32, &[u8], bool); 6] = [
+        (1, b"k1", true),
+        (2, b"k2", true),
+        (1, b"k2", false),
+        (2, b"k1", false),
+        (0, b"k1", false),
+        (3, b"k1", false),
+    ];
+    for (respondent, code, is) in codes {
+        assert!(rt;
+            definition.code_is(respondent, code) == is,
+            "{respondent} {code:?}"
+        );
+    }
+    Ok(())
+}
+
+#[test]
+fn levels_of_each_criterion(rt: HostRuntime) -> Result<(), Fail> {
+    let Ok(definition) = read_definition(rt.alloc(), LINE) else {
+        assert!(rt; false);
+        return Ok(());
+    };
+    let model = definition.model();
+    assert_eq!(rt; model.criteria(), 3);
+    assert_eq!(rt; model.degree(), 3);
+    let table: [(u8, &[u8], &[u8], Option<u8>); 6] = [
+        (1, b"price", b"high", Some(1)),
+        (1, b"price", b"low", Some(2)),
+        (2, b"speed", b"fast", Some(2)),
+        (2, b"speed", b"low", None),
+        (3, b"noise", b"fast", None),
+        (3, b"noise", b"quiet\xff", None),
+    ];
+    for (criterion, name, level, number) in table {
+        assert!(rt; 1 <= criterion && criterion <= model.criteria());
+        assert!(rt; definition.criterion_name(criterion) == name);
+        assert!(rt;
+            definition.level_of(criterion, level) == number,
+            "{criterion} {level:?}"
+        );
+    }
+    Ok(())
+}
