@@ -183,6 +183,7 @@ class Survey:
         return {"implied": {"question": question, "verdict": verdict, "combination": combination}}
 
     def prove(self, pair, verdict, scale, increments, answers):
+        want(all(type(number) is int for number, _ in answers), "answers")
         cited = cites(",".join(f"{number}:{weight}" for number, weight in answers) or "-")
         weights = [certificate(weight) for weight in increments]
         want(len(weights) == len(self.model.increments), "increments")
@@ -232,7 +233,7 @@ def shares(best):
 def report_of(lines):
     file = File()
     file.read(2, next(lines))
-    survey = Survey(file.model)
+    survey, number = Survey(file.model), 0
     for number, request in enumerate(lines, 1):
         reply = next(lines, b"").decode()
         try:
