@@ -1,5 +1,5 @@
 -- The events of a legal history have the forms that lines of a result may have.
-use Rattle.std.proofs.Common.{◌≡◌, ℕ, suc, ◌+◌, ◌<◌, ◌≤◌, Bool, true, false, if◌then◌else◌, List, [], ◌∷◌, ◌++◌, length, take, drop, take-append-drop, get_or, Option, Some, None, ℤ, refl, inl, inr, arith, length-append, length-take}
+use Rattle.std.proofs.Common.{◌≡◌, ℕ, suc, ◌+◌, ◌<◌, ◌≤◌, Bool, true, false, if◌then◌else◌, List, [], ◌∷◌, length, take, drop, take-append-drop, get_or, Option, Some, None, ℤ, refl, inl, inr, arith, length-append, length-take}
 use Rattle.std.specs.Prelude.{fold}
 use Rattle.std.specs.List.{All, filter_map, cons_option, list_any}
 use Rattle.std.proofs.lemmas.Option.{slice_get-get_or}
@@ -17,13 +17,12 @@ use Rattle.survey_core.specs.declared.events.Event.TheVariants as events
 use Rattle.survey_core.specs.declared.limits.TheConstants.{MAX_EVENTS}
 use Rattle.survey_core.specs.Kinds.{issued_place, is_commit}
 use Rattle.survey_core.specs.Histories.{standing, standing_after, without_taken, is_taken, answer_of, issued, is_unended, class_at, committed, IsOpenQuestion}
-use Rattle.survey_core.specs.Legal.{IsPlace, IsEvent, MayFollow, IsLegal}
+use Rattle.survey_core.specs.Legal.{IsEvent, IsLegal}
 use Rattle.survey_core.proofs.ListSteps.{some_and, filtered_range}
 use Rattle.survey_core.proofs.NamedParts.{HasParts, named}
 use Rattle.survey_core.proofs.ShortLemmas.{legal_is_short_lem}
 use Rattle.survey_replies.proofs.PlainLemmas.{legal_front}
 use Rattle.result_file.specs.declared.entries.Format.TheVariants.{Two}
-use Rattle.result_file.specs.Contents.{Content, of_events}
 use Rattle.result_file.specs.Entries.{HasNumberForm, HasVectorForm, HasEntryForm}
 use Rattle.result_file.specs.Events.{pair_at_place, as_entry}
 use Rattle.result_file.specs.Files.{file_text, result_of, IsRightFile}
@@ -151,9 +150,12 @@ history_forms listed history list legal numbers =
 pub legal_first : (listed : Listed) (history : List Event) (count : ℕ) → IsLegal listed history → IsLegal listed (take count history)
 legal_first listed history count legal = legal_front listed (take count history) history (drop count history, take-append-drop count history) legal
 
-pub right_file : (listed : Listed) (history : List Event) → IsListed listed → IsLegal listed history → All HasNumbers history → IsRightFile (result_of listed history)
-right_file listed history list legal numbers =
-    let right : AreEvents Two (record { listed = listed; history = history }) =
-    record { listed = list; legal = legal; forms = history_forms listed history list legal numbers } in
+-- a right history in the second format makes a right file
+pub file_is_right : (listed : Listed) (history : List Event) → AreEvents Two (record { listed = listed; history = history }) → IsRightFile (result_of listed history)
+file_is_right listed history right =
     let file : IsFileOf (result_of listed history) (file_text (result_of listed history)) = record { right = right; lines = inr refl } in
     record { file = file; complete = λ all. (result_of listed history, file, all); incomplete = λ not_all. (result_of listed history, file, not_all) }
+
+pub right_file : (listed : Listed) (history : List Event) → IsListed listed → IsLegal listed history → All HasNumbers history → IsRightFile (result_of listed history)
+right_file listed history list legal numbers =
+    file_is_right listed history (record { listed = list; legal = legal; forms = history_forms listed history list legal numbers })

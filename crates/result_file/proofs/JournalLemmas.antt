@@ -1,5 +1,5 @@
 -- The lines of a journal, one after the other.
-use Rattle.std.proofs.Common.{◌≡◌, ℕ, suc, ◌+◌, ◌<◌, ◌≤◌, List, [], ◌∷◌, ◌++◌, length, map, take, drop, Some, slice_get, refl, sym, ap, subst, ◌∙◌, arith, append_assoc, append-nil, take-append-drop}
+use Rattle.std.proofs.Common.{◌≡◌, ℕ, suc, ◌+◌, ◌<◌, ◌≤◌, List, [], ◌∷◌, ◌++◌, length, map, take, drop, Some, slice_get, sym, ap, subst, ◌∙◌, arith, append_assoc, append-nil, take-append-drop}
 use Rattle.std.specs.Prelude.{Option, OnOk, OnErr, Result, Ok, Err}
 use Rattle.std.specs.List.{All}
 use Rattle.std.proofs.lemmas.List.{map_push, map-append}
@@ -15,7 +15,7 @@ use Rattle.survey_core.specs.Histories.{item_at}
 use Rattle.survey_core.specs.Legal.{IsLegal}
 use Rattle.survey_core.proofs.ListSteps.{take_next, take-take, slice_get_inside}
 use Rattle.survey_replies.proofs.CallLemmas.{prefix_get}
-use Rattle.result_file.specs.Events.{event_line, NamesClass}
+use Rattle.result_file.specs.Events.{NamesClass}
 use Rattle.result_file.specs.Files.{IsOut}
 use Rattle.result_file.specs.Numbers.{HasNumbers}
 use Rattle.result_file.specs.declared.entries.Format.TheVariants.{Two}

@@ -3,6 +3,7 @@ pub mod ListedLemmas
 pub mod OutLemmas
 pub mod FormLemmas
 pub mod JournalLemmas
+pub mod CopyLemmas
 pub mod EliminationLaws
 pub mod ClaimLaws
 pub mod EntryLaws

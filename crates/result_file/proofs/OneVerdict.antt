@@ -49,7 +49,7 @@ lines_unbroken_by (suc n) content count h =
           (All-cons HasNoLineEnd last.line [] (adds_unbroken last.before last.line content last.adds) (All-nil HasNoLineEnd))))
     ]
 
-lines_unbroken : (content : Content) → IsRightContent content → All HasNoLineEnd (lines_of content)
+pub lines_unbroken : (content : Content) → IsRightContent content → All HasNoLineEnd (lines_of content)
 lines_unbroken content h = lines_unbroken_by (length (lines_of content)) content refl h
 
 -- ---- a stage at which a text stops

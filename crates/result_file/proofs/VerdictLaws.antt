@@ -28,12 +28,12 @@ use Rattle.result_file.specs.Progress.{IsAtStage, GoesOn, EndsWhole, EndsAs, Has
 use Rattle.result_file.specs.RightClaims.{AreClaims}
 use Rattle.result_file.specs.Texts.{end_line, claim_line}
 
-for_told : (text : Option (List ℕ)) (P : List ℕ → Type 0) → ((bytes : List ℕ) → text ≡ Some bytes → P bytes) → IfSome text P
+pub for_told : (text : Option (List ℕ)) (P : List ℕ → Type 0) → ((bytes : List ℕ) → text ≡ Some bytes → P bytes) → IfSome text P
 for_told None P f = tt
 for_told (Some bytes) P f = f bytes refl
 
 -- what is shown now, where it is shown what was before
-told_now : (text now : Option (List ℕ)) (front bytes : List ℕ) → text ≡ prepend_known front now → text ≡ Some bytes
+pub told_now : (text now : Option (List ℕ)) (front bytes : List ℕ) → text ≡ prepend_known front now → text ≡ Some bytes
     → (rest : List ℕ) × (now ≡ Some rest) × (bytes ≡ front ++ rest)
 told_now text None front bytes e is = absurd cc
 told_now text (Some rest) front bytes e is = (rest, refl, cc)

@@ -20,4 +20,5 @@ pub mod Stops
 pub mod Verdicts
 pub mod Words
 pub mod Files
+pub mod Migrated
 pub mod Laws

@@ -2,7 +2,7 @@
 use Rattle.criteria_model.specs.Lists.{IsVector}
 use Rattle.farkas_check.specs.Cited.{AreCites}
 use Rattle.survey_core.specs.declared.events.Event.{Event}
-use Rattle.survey_core.specs.declared.events.Event.TheVariants.{Eliminate, Issue, Commit, Close, Withdraw}
+use Rattle.survey_core.specs.declared.events.Event.TheVariants.{Eliminate, Issue, Commit}
 
 -- the numbers of its vectors, weights and cites are below 2^96 in size, and its cites stand in order
 abbrev pub HasNumbers : Event → Type 0

@@ -1,7 +1,7 @@
 -- The progress in a file that a reader keeps, and the stage that it stands for.
-use Rattle.std.specs.Prelude.{◌≡◌, ◌≢◌, ℕ, ◌+◌, List, [], ◌∷◌, ◌++◌, length, All, Option}
+use Rattle.std.specs.Prelude.{◌≡◌, ◌≢◌, ℕ, ◌+◌, List, [], ◌∷◌, ◌++◌, length, All, Option, IfSome}
 use Rattle.edges.specs.Line.{HasNoLineEnd, unlines}
-use Rattle.edges.specs.Told.{Takes}
+use Rattle.edges.specs.Told.{Takes, IsAtEnd}
 use Rattle.result_file.specs.declared.progress.Progress.{Progress}
 use Rattle.result_file.specs.declared.progress.Progress.TheVariants as reached
 use Rattle.result_file.specs.declared.verdicts.Part.TheVariants.{Form}
@@ -50,3 +50,9 @@ pub record HasCome (text now : Option (List ℕ)) (line : ℕ) (progress : Progr
   pub says : Says lines stage
   pub stands : IsAtStage progress stage
   pub number : line ≡ length lines + 1
+
+-- the text ahead was a piece of a line without its line end, or nothing, and all is read
+pub record EndsWithPiece (piece : List ℕ) (before left : Option (List ℕ)) : Type 0 where
+  pub unbroken : HasNoLineEnd piece
+  pub told : IfSome before (λ text. text ≡ piece)
+  pub ended : IsAtEnd left

@@ -1,9 +1,10 @@
 ghost use Rattle.std.specs.Prelude.{◌≡◌, ℕ, ◌+◌, ◌<◌, ◌≤◌, List, [], Option, IfSome, IfOk, IfErr, OnOk};
 ghost use Rattle.edges.specs.Faults.{CountsFaults};
-ghost use Rattle.edges.specs.Lines.{ahead};
+ghost use Rattle.edges.specs.Lines.{GivesLine, ahead};
 ghost use Rattle.edges.specs.Told.{IsAtEnd};
 ghost use Rattle.result_file.specs.Checked.{IsToldChecked};
-ghost use Rattle.result_file.specs.Progress.{HasCome};
+ghost use Rattle.result_file.specs.Migrated.{IsAccepted};
+ghost use Rattle.result_file.specs.Progress.{HasCome, EndsWithPiece};
 ghost use Rattle.result_file.specs.Verdicts.{EndsInput};
 
 use crate::limits::MAX_LINE;
@@ -46,7 +47,7 @@ fn check_lines<S: Source>(alloc: Global, lines: Lines, source: &mut S) -> Checke
 }
 
 /// Goes on by one line, of that number, or gives the verdict on the file.
-fn next_progress<S: Source>(
+pub(crate) fn next_progress<S: Source>(
     alloc: Global,
     lines: &mut Lines,
     source: &mut S,
@@ -58,6 +59,8 @@ fn next_progress<S: Source>(
         HasCome text (ahead lines.old (S.left source.old)) number progress → HasCome text (ahead lines.new (S.left source.new)) (number + 1) next) }
     ensures verdict { IfErr result (λ verdict. (text : Option (List ℕ)) →
         HasCome text (ahead lines.old (S.left source.old)) number progress → IsToldChecked text verdict) }
+    ensures line { OnOk result (GivesLine lines.new (ahead lines.old (S.left source.old)) (ahead lines.new (S.left source.new))) }
+    ensures piece { IfErr result (λ verdict. IsAccepted verdict → EndsWithPiece lines.new.line (ahead lines.old (S.left source.old)) (S.left source.new)) }
     ensures quiet { OnOk result (S.faults source.new ≡ S.faults source.old) }
     ensures faults { IfErr result (λ verdict. CountsFaults (verdict ≡ Checked.ReadFault) (S.faults source.old) (S.faults source.new)) }
     ensures ended { IfErr result (λ verdict. EndsInput verdict (S.left source.new)) }

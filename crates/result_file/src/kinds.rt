@@ -10,7 +10,7 @@ const CLAIMS: &[u8] = b"paprika claims 1";
 /// The first lines of a result, in each format.
 const FORMAT_ONE: &[u8] = b"paprika result 1";
 
-const FORMAT_TWO: &[u8] = b"paprika result 2";
+pub(crate) const FORMAT_TWO: &[u8] = b"paprika result 2";
 
 /// What a checked file contains.
 #[derive(Clone, Copy)]
