@@ -12,4 +12,3 @@ pub mod SlackLine
 pub mod AddRow
 pub mod DropRow
 pub mod UnitSteps
-pub mod ShortNumbers

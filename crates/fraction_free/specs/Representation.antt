@@ -1,6 +1,6 @@
 -- How a dictionary keeps what it promises: scale and entries are minors of the table of its variables.
 -- The table has a row for each variable, and a column for each increment and one for the constant 1.
-use Rattle.std.specs.Prelude.{ℕ, ◌+◌, ◌-◌, ◌^◌, ◌≡◌, ◌<◌, ◌≤◌, List, [], ◌∷◌, ◌++◌, length, take, map, slice_index, slice_index_or, ℤ, pos, neg_ℤ, ◌+ℤ◌, ◌-ℤ◌, ◌*ℤ◌, ◌≤ℤ◌, ◌≢◌, unsigned_abs, fold, if◌then◌else◌, ◌==◌, nat_le, nat_lt, slice_set, replicate}
+use Rattle.std.specs.Prelude.{ℕ, ◌+◌, ◌-◌, ◌≡◌, ◌<◌, ◌≤◌, List, [], ◌∷◌, ◌++◌, length, take, map, slice_index, slice_index_or, ℤ, pos, neg_ℤ, ◌+ℤ◌, ◌-ℤ◌, ◌*ℤ◌, ◌≤ℤ◌, ◌≢◌, unsigned_abs, fold, if◌then◌else◌, ◌==◌, nat_le, nat_lt, slice_set, replicate}
 use Rattle.std.specs.List.{range_with_len}
 use Rattle.wide_step.specs.Quotient.{HasQuotient}
 use Rattle.row_laws.specs.Rows.{entry}
@@ -60,10 +60,6 @@ pub record IsRepresentation (dictionary : DictionaryView) (places : Arranged) (l
   pub places_room : dictionary.room_columns + 1 + dictionary.room_rows ≤ places.room
   pub has_lines_room : dictionary.room_rows ≤ lines_room
   pub has_loaded_room : dictionary.room_rows ≤ loaded_room
-
--- each number is short, below 2 ^ 31 in size
-abbrev pub AreShortNumbers : List ℤ → Type 0
-AreShortNumbers numbers = (place : ℕ) → unsigned_abs (entry numbers place) < 2 ^ 31
 
 -- what a pivot asks of the lines: sizes, and that each difference of products has an exact quotient
 pub record CanExchange (scale : ℤ) (at column : ℕ) (lines : List (List ℤ)) : Type 0 where

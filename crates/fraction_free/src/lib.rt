@@ -7,8 +7,8 @@
 //! constant 1, and a line's last number is its constant.
 //!
 //! Rows lie in one block of memory (`lines`), and a pivot walks them in order with one `Divisor` of
-//! the old scale. A row with a 0 in the pivot's column stays as it is where old and new scale are
-//! equal, and where the entry and the old scale are 1 nothing is divided. `places` keeps each
+//! the old scale. Where old and new scale are equal, a row with a 0 in the pivot's column stays as it
+//! is, and so does each number under a 0 of the pivot's row; where both are 1 nothing is divided. `places` keeps each
 //! variable's place beside the list of variables, so that no call searches for one; `drop_last`
 //! looks for the first row to pivot on.
 #![tactic(auto)]

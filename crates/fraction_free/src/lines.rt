@@ -1,33 +1,30 @@
 //! One row of a dictionary's numbers.
 ghost use Rattle.std.specs.Prelude.{◌≡◌, ◌≢◌, ℕ, ◌<◌, ◌≤◌, ◌^◌, length, replicate, slice_set, slice_index_or, vec_capacity, List, [], ℤ, pos, ◌+ℤ◌, ◌-ℤ◌, ◌*ℤ◌, unsigned_abs, IsTrue};
-ghost use Rattle.wide_step.specs.Quotient.{HasQuotient, AreShort};
+ghost use Rattle.wide_step.specs.Quotient.{HasQuotient};
 ghost use Rattle.row_laws.specs.Rows.{entry};
 ghost use Rattle.fraction_free.specs.Changes.{with_sign, IsOtherLine, IsPivotLine, IsExchangedAt};
-ghost use Rattle.fraction_free.specs.Representation.{AreShortNumbers, CanExchange, AreExchanged};
+ghost use Rattle.fraction_free.specs.Representation.{CanExchange, AreExchanged};
 
 use crate::limits::{MAX_LINE, NUMBER_BOUND};
 use std::marker::Model;
-use wide_step::{Divisor, QUOTIENT_BOUND, is_short};
+use wide_step::{Divisor, QUOTIENT_BOUND};
 
 /// A list of at most 25 whole numbers: the entries of a row, and its constant.
 #[derive(Drop)]
 pub struct Line {
     cells: [i128; MAX_LINE],
     len: u8,
-    // that each number is short, so that a pivot looks at no size
-    short: bool,
 }
 
 impl Model for Line {
-    ghost use Rattle.std.specs.Prelude.{ℤ, ◌≡◌, ◌≤◌, List, take, true};
+    ghost use Rattle.std.specs.Prelude.{ℤ, ◌≤◌, List, take};
     ghost use Rattle.fraction_free.specs.declared.limits.TheConstants.{MAX_LINE};
-    ghost use Rattle.fraction_free.specs.Representation.{AreShortNumbers};
 
     ghost Value = { List ℤ };
 
     ghost view = { λ l. take l.len l.cells };
 
-    ghost invariant = { λ l. (l.len ≤ MAX_LINE) × (l.short ≡ true → AreShortNumbers (take l.len l.cells)) };
+    ghost invariant = { λ l. l.len ≤ MAX_LINE };
 }
 
 impl Line {
@@ -39,7 +36,6 @@ impl Line {
         Line {
             cells: [0; MAX_LINE],
             len: len as u8,
-            short: true,
         }
     }
 
@@ -50,7 +46,6 @@ impl Line {
         Line {
             cells: self.cells,
             len: self.len,
-            short: self.short,
         }
     }
 
@@ -76,16 +71,8 @@ impl Line {
         requires { place < length self.old }
         ensures { self.new ≡ slice_set self.old place value }
     {
-        self.short = self.short && is_short(value);
         let cells = &mut self.cells;
         cells[place] = value;
-    }
-
-    /// Whether it is known that each number is short.
-    fn is_short(&self) -> bool
-        ensures { IsTrue result → AreShortNumbers self.now }
-    {
-        self.short
     }
 }
 
@@ -107,10 +94,10 @@ impl Line {
         if factor == 0 && entry == scale.number() {
             return;
         }
-        let short = are_short(self, pivot);
+        let same = is_same(entry, scale);
         for place in 0..self.len() {
             if place != column {
-                self.exchange_at(place, entry, factor, pivot.get(place), scale, short);
+                self.exchange_at(place, entry, factor, pivot.get(place), scale, same);
             }
         }
         self.set(column, factor);
@@ -126,7 +113,7 @@ impl Line {
         factor: i128,
         other: i128,
         scale: &Divisor,
-        short: bool,
+        same: bool,
     )
         requires place { place < length self.old }
         requires entry_size { unsigned_abs lead < NUMBER_BOUND }
@@ -134,10 +121,14 @@ impl Line {
         requires factor_size { unsigned_abs factor < NUMBER_BOUND }
         requires other_size { unsigned_abs other < NUMBER_BOUND }
         requires exact { HasQuotient (lead *ℤ entry self.old place -ℤ factor *ℤ other) scale.now }
-        requires sizes { IsTrue short → AreShort lead (entry self.old place) factor other }
+        requires same_scale { IsTrue same → lead ≡ scale.now }
         ensures { IsExchangedAt scale.now lead factor other self.old self.new place }
     {
-        let quotient = quotient_of(lead, self.get(place), factor, other, scale, short);
+        // nothing is taken off, and the old scale is the new one
+        if same && other == 0 {
+            return;
+        }
+        let quotient = quotient_of(lead, self.get(place), factor, other, scale);
         self.set(place, quotient);
     }
 
@@ -174,36 +165,27 @@ impl Line {
     }
 }
 
-/// Whether it is known that each number of both lines is short.
-fn are_short(line: &Line, other: &Line) -> bool
-    ensures { IsTrue result → AreShortNumbers line.now × AreShortNumbers other.now }
+/// Whether the pivot's entry is the old scale.
+#[inline]
+fn is_same(lead: i128, scale: &Divisor) -> bool
+    requires { unsigned_abs lead < NUMBER_BOUND }
+    ensures { IsTrue result → lead ≡ scale.now }
 {
-    line.is_short() && other.is_short()
+    lead == scale.number()
 }
 
-/// The exact quotient by the old scale. Where it is known that all factors are short, as in most pivots on rows of few
-/// differing increments, no size is looked at; where entry and scale are 1, there is nothing to divide.
+/// The exact quotient by the old scale. Where entry and scale are 1, as in most pivots on rows of few differing
+/// increments, there is nothing to divide.
 #[inline]
-fn quotient_of(
-    entry: i128,
-    number: i128,
-    factor: i128,
-    other: i128,
-    scale: &Divisor,
-    short: bool,
-) -> i128
+fn quotient_of(entry: i128, number: i128, factor: i128, other: i128, scale: &Divisor) -> i128
     requires entry_size { unsigned_abs entry < NUMBER_BOUND }
     requires number_size { unsigned_abs number < NUMBER_BOUND }
     requires factor_size { unsigned_abs factor < NUMBER_BOUND }
     requires other_size { unsigned_abs other < NUMBER_BOUND }
     requires exact { HasQuotient (entry *ℤ number -ℤ factor *ℤ other) scale.now }
-    requires sizes { IsTrue short → AreShort entry number factor other }
     ensures quotient { result *ℤ scale.now ≡ entry *ℤ number -ℤ factor *ℤ other }
     ensures size { unsigned_abs result < QUOTIENT_BOUND }
 {
-    if short {
-        return scale.short_step(entry, number, factor, other);
-    }
     if entry == 1 && scale.number() == 1 {
         return number - factor * other;
     }

@@ -2,4 +2,3 @@ pub mod Integers
 pub mod DividedLemmas
 pub mod Product
 pub mod Inverses
-pub mod Steps

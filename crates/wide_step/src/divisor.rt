@@ -32,7 +32,7 @@ impl Model for Divisor {
 }
 
 impl Divisor {
-    ghost use Rattle.wide_step.specs.Quotient.{HasQuotient, AreShort};
+    ghost use Rattle.wide_step.specs.Quotient.{HasQuotient};
 
     /// The divisor with this value. It works out the inverse, once for all steps.
     pub fn of(number: i128) -> Divisor
@@ -80,20 +80,6 @@ impl Divisor {
         }
         step(a, b, c, d, self.number)
     }
-
-    /// The exact quotient of `a * b - c * d` on short factors, as `step` gives it without a look at their sizes.
-    #[inline]
-    pub fn short_step(&self, a: i128, b: i128, c: i128, d: i128) -> i128
-        requires short { AreShort a b c d }
-        requires exact { HasQuotient (a *ℤ b -ℤ c *ℤ d) self.now }
-        ensures quotient { result *ℤ self.now ≡ a *ℤ b -ℤ c *ℤ d }
-        ensures size { unsigned_abs result < QUOTIENT_BOUND }
-    {
-        match self.inverse {
-            Some(inverse) => short_step(a, b, c, d, inverse),
-            None => step(a, b, c, d, self.number),
-        }
-    }
 }
 
 ghost use Rattle.wide_step.specs.Quotient.{AreShort, AreSmall};
@@ -107,9 +93,9 @@ fn are_short(a: i128, b: i128, c: i128, d: i128) -> bool
     is_short(a) && is_short(b) && is_short(c) && is_short(d)
 }
 
-/// Whether a factor is short, below 2^31 in size.
+/// Whether a factor is short.
 #[inline]
-pub fn is_short(factor: i128) -> bool
+fn is_short(factor: i128) -> bool
     ensures { IsTrue result ↔ unsigned_abs factor < 2 ^ 31 }
 {
     -SHORT < factor && factor < SHORT

@@ -5,8 +5,8 @@
 //! directly; else each product is formed bit by bit as quotient and remainder by `e` (`divided`),
 //! with quotients kept modulo 2^128. A `Divisor` is for many steps: below 2^63 it keeps the
 //! inverses of its odd part modulo 2^64 and 2^128 (`inverse`), so that a multiple is divided by a
-//! shift and a product; factors below 2^31 (`is_short`) take 64-bit numbers, those below 2^62 take
-//! 128-bit ones, and all else goes to `step`; who knows that all are short calls `short_step`. `gcd` is never negative, and that of 0 and 0 is 0.
+//! shift and a product; factors below 2^31 take 64-bit numbers, those below 2^62 take 128-bit ones,
+//! and all else goes to `step`. `gcd` is never negative, and that of 0 and 0 is 0.
 #![tactic(auto)]
 
 ghost use Rattle.std.specs.Prelude.{◌≡◌, ◌<◌, ◌^◌, pos, ◌*ℤ◌, ◌-ℤ◌, ◌≤ℤ◌, ◌↔◌, unsigned_abs, IsTrue};
@@ -19,7 +19,7 @@ mod inverse;
 mod limits;
 
 use divided::signed_product;
-pub use divisor::{Divisor, is_short};
+pub use divisor::Divisor;
 pub use limits::{FACTOR_BOUND, QUOTIENT_BOUND};
 
 /// Factors below this size are multiplied directly: a product is then below 2^124.

@@ -6,7 +6,6 @@ use Rattle.row_laws.proofs.Integers.{read_back}
 use Rattle.row_laws.specs.Rows.{entry}
 use Rattle.fraction_free.specs.Changes.{with_sign}
 use Rattle.fraction_free.proofs.Signs.{with_sign-mul, with_sign-abs, with_sign-difference}
-use Rattle.fraction_free.proofs.ShortNumbers.{short_signed, short_same}
 use Rattle.fraction_free.proofs.LineSteps.{IsExchangedTo, products, exchanged_more, exchanged_past_column, exchanged_all, stays}
 use Rattle.fraction_free.proofs.lines.Line.exchange.Goals as goal
 use Rattle.fraction_free.proofs.lines.Line.exchange.Goals.{then-place-column, else-place-column}
@@ -41,18 +40,6 @@ exchange_at-requires-clause-exact c =
     (number_back c.get-then-place-column.result _ c.get-then-place-column.ensures (c.requires.pivot_sizes c.loop-place.place))
     (v.rest c.loop-place.place (omega arith))
     (c.requires.exact c.loop-place.place (omega arith) c.if-place-column.true)
-
-pub exchange_at-requires-clause-sizes : goal.exchange_at-requires-clause-sizes
-exchange_at-requires-clause-sizes c known =
-    let short = c.are_short-short.ensures known in
-    let pivot = c.args.pivot.now in
-    let p_size = c.requires.pivot_sizes c.args.column in
-    record {
-      a_size = short_signed _ (entry pivot c.args.column) (entry pivot c.args.column) (signed_back c.with_sign-entry.result c.get-sign.result c.get-sign.result _ _ c.with_sign-entry.ensures c.get-sign.ensures c.get-sign.ensures p_size p_size) (short.1 c.args.column);
-      b_size = short_same _ _ (c.loop-place.invariant.rest c.loop-place.place (omega arith)) (short.0 c.loop-place.place);
-      c_size = short_signed _ (entry pivot c.args.column) (entry c.args.self.now c.args.column) (signed_back c.with_sign-factor.result c.get-sign.result c.get.result _ _ c.with_sign-factor.ensures c.get-sign.ensures c.get.ensures p_size (c.requires.sizes c.args.column)) (short.0 c.args.column);
-      d_size = short_same _ _ (number_back c.get-then-place-column.result _ c.get-then-place-column.ensures (c.requires.pivot_sizes c.loop-place.place)) (short.1 c.loop-place.place);
-    }
 
 pub loop-place-preserved : goal.loop-place-preserved
 loop-place-preserved c =

@@ -1,5 +1,7 @@
-use Rattle.std.proofs.Common.{◌≡◌, ◌∙◌, ◌<◌, ◌^◌, ℕ, ℤ, pos, ◌*ℤ◌, ◌-ℤ◌, unsigned_abs, List, length, set, to_z, of_z, ap, arith}
+use Rattle.std.proofs.Common.{◌≡◌, ◌∙◌, ◌<◌, ◌^◌, ℕ, ℤ, pos, ◌*ℤ◌, ◌-ℤ◌, unsigned_abs, List, length, set, to_z, of_z, refl, sym, ap, arith}
 use Rattle.std.proofs.lemmas.List.{length-set, get_or-set_same, get_or-set_other}
+use Rattle.std.proofs.lemmas.Int.{ints}
+use Rattle.std.proofs.Math.IntN.{*ℤ_comm, zero-*ℤ}
 use Rattle.std.specs.Int.{w128}
 use Rattle.row_laws.specs.Rows.{entry}
 use Rattle.fraction_free.specs.Changes.{IsExchangedAt}
@@ -28,3 +30,20 @@ returns c =
     (small_back q c.quotient_of-quotient.ensures.size)
     (quotient_back q c.args.scale.now c.args.lead c.get.result (entry old c.args.place) c.args.factor c.args.other c.get.ensures
     c.requires.entry_size c.requires.number_size c.requires.factor_size c.requires.other_size c.quotient_of-quotient.ensures.quotient)
+
+-- with the scale as the entry and nothing to take off the number stays
+stayed : (s lead factor other : ℤ) (old : List ℤ) (place : ℕ) → lead ≡ s → other ≡ pos 0 → IsExchangedAt s lead factor other old old place
+stayed s lead factor other old place same none = record {
+  len = refl;
+  divided = rw (same, none) (alone s (entry old place) factor);
+  others = λ at apart. refl;
+}
+  where
+    alone : (s x f : ℤ) → x *ℤ s ≡ s *ℤ x -ℤ f *ℤ pos 0
+    alone s x f = omega (arith, ints, *ℤ_comm x s, *ℤ_comm f (pos 0), zero-*ℤ f)
+
+pub returns-then-other-eq0 : goal.returns-then-other-eq0
+returns-then-other-eq0 c =
+    let size = c.requires.other_size in
+    stayed c.args.scale.now c.args.lead c.args.factor c.args.other c.args.self.now c.args.place (c.requires.same_scale c.if-same.true)
+    (sym (small_back c.args.other (omega arith)) ∙ ap (to_z w128) c.if-other-eq0.true)
