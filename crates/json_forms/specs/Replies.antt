@@ -109,19 +109,19 @@ abbrev pub welcome_json : ℕ → ℕ → Data
 welcome_json classes desk = named (codes "welcome") (object_with ((codes "classes", whole classes) ∷ (codes "desk", whole desk) ∷ []))
 
 -- the line of a JSON value
-abbrev pub line_of : Data → List ℕ
-line_of d = compact_text d ++ line_end ∷ []
+abbrev pub json_line : Data → List ℕ
+json_line d = compact_text d ++ line_end ∷ []
 
 -- what is written for a reply, by the level counts of the model; the reply to `result` isn't written here
 abbrev pub reply_text : List ℕ → Reply → List ℕ
-reply_text levels (Welcome classes desk) = line_of (welcome_json classes desk)
-reply_text levels (Next reply) = line_of (next_json reply)
-reply_text levels (Answer reply) = line_of (answer_json reply)
-reply_text levels (Values reply) = line_of (values_json levels reply)
-reply_text levels (Withdraw reply) = line_of (withdraw_json reply)
+reply_text levels (Welcome classes desk) = json_line (welcome_json classes desk)
+reply_text levels (Next reply) = json_line (next_json reply)
+reply_text levels (Answer reply) = json_line (answer_json reply)
+reply_text levels (Values reply) = json_line (values_json levels reply)
+reply_text levels (Withdraw reply) = json_line (withdraw_json reply)
 reply_text levels (Result length) = []
-reply_text levels Bye = line_of (named (codes "bye") (boolean true))
-reply_text levels (Refused word) = line_of (refused_json word)
+reply_text levels Bye = json_line (named (codes "bye") (boolean true))
+reply_text levels (Refused word) = json_line (refused_json word)
 
 -- values have a vector of the model
 abbrev pub HasVector : List ℕ → ValuesReply → Type 0

@@ -28,5 +28,5 @@ abbrev pub vector_in : List ℕ → Data → Option (List ℤ)
 vector_in levels d = get (codes "values") d >>= get (codes "vector") >>= as_array >>= positives_of (increments levels)
 
 -- the vector that the line has for a model of these level counts
-abbrev pub vector_of : List ℕ → List ℕ → Option (List ℤ)
-vector_of levels line = json_of line >>= vector_in levels
+abbrev pub values_vector : List ℕ → List ℕ → Option (List ℤ)
+values_vector levels line = json_of line >>= vector_in levels

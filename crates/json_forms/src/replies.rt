@@ -6,7 +6,7 @@ ghost use Rattle.json.specs.Print.{quoted};
 ghost use Rattle.serde_json.specs.Written.{compact_text};
 ghost use Rattle.json_forms.specs.Json.{array_of, certificate, named};
 ghost use Rattle.json_forms.specs.Sides.{side_word};
-ghost use Rattle.json_forms.specs.Replies.{IsWritable, HasVector, line_of, reply_text, welcome_json, next_json, question_json, answer_json, implied_json, combination_json, values_json, vector_json, level_values, level_values_json, incomplete_json, withdraw_json, withdrawn_json, refused_json, word_text};
+ghost use Rattle.json_forms.specs.Replies.{IsWritable, HasVector, json_line, reply_text, welcome_json, next_json, question_json, answer_json, implied_json, combination_json, values_json, vector_json, level_values, level_values_json, incomplete_json, withdraw_json, withdrawn_json, refused_json, word_text};
 
 use crate::writing::{Item, put, separate, write_array};
 use criteria_model::{MAX_LEVEL, Model, Pair, Side, Vector};
@@ -73,7 +73,7 @@ pub fn write_reply(reply: &Reply, model: &Model, out: &mut Text)
 
 fn write_welcome(classes: u32, desk: u8, out: &mut Text)
     requires { length out.old.bytes + MAX_REPLY ≤ out.old.room }
-    ensures bytes { out.new.bytes ≡ out.old.bytes ++ line_of (welcome_json classes desk) }
+    ensures bytes { out.new.bytes ≡ out.old.bytes ++ json_line (welcome_json classes desk) }
     ensures room { out.new.room ≡ out.old.room }
     ensures grown { length out.new.bytes ≤ length out.old.bytes + MAX_REPLY }
 {
@@ -86,7 +86,7 @@ fn write_welcome(classes: u32, desk: u8, out: &mut Text)
 
 fn write_next(reply: &NextReply, out: &mut Text)
     requires { length out.old.bytes + MAX_REPLY ≤ out.old.room }
-    ensures bytes { out.new.bytes ≡ out.old.bytes ++ line_of (next_json reply.now) }
+    ensures bytes { out.new.bytes ≡ out.old.bytes ++ json_line (next_json reply.now) }
     ensures room { out.new.room ≡ out.old.room }
     ensures grown { length out.new.bytes ≤ length out.old.bytes + MAX_REPLY }
 {
@@ -100,7 +100,7 @@ fn write_next(reply: &NextReply, out: &mut Text)
 
 fn write_question(number: u32, pair: &Pair, out: &mut Text)
     requires { length out.old.bytes + MAX_REPLY ≤ out.old.room }
-    ensures bytes { out.new.bytes ≡ out.old.bytes ++ line_of (question_json number pair.now) }
+    ensures bytes { out.new.bytes ≡ out.old.bytes ++ json_line (question_json number pair.now) }
     ensures room { out.new.room ≡ out.old.room }
     ensures grown { length out.new.bytes ≤ length out.old.bytes + MAX_REPLY }
 {
@@ -115,7 +115,7 @@ fn write_question(number: u32, pair: &Pair, out: &mut Text)
 
 fn write_answer(reply: &AnswerReply, out: &mut Text)
     requires { length out.old.bytes + MAX_REPLY ≤ out.old.room }
-    ensures bytes { out.new.bytes ≡ out.old.bytes ++ line_of (answer_json reply.now) }
+    ensures bytes { out.new.bytes ≡ out.old.bytes ++ json_line (answer_json reply.now) }
     ensures room { out.new.room ≡ out.old.room }
     ensures grown { length out.new.bytes ≤ length out.old.bytes + MAX_REPLY }
 {
@@ -147,7 +147,7 @@ fn write_numbered(front: &[u8], number: u32, out: &mut Text)
 
 fn write_implied(question: u32, verdict: Side, combination: &Combination, out: &mut Text)
     requires { length out.old.bytes + MAX_REPLY ≤ out.old.room }
-    ensures bytes { out.new.bytes ≡ out.old.bytes ++ line_of (implied_json question verdict combination.now) }
+    ensures bytes { out.new.bytes ≡ out.old.bytes ++ json_line (implied_json question verdict combination.now) }
     ensures room { out.new.room ≡ out.old.room }
     ensures grown { length out.new.bytes ≤ length out.old.bytes + MAX_REPLY }
 {
@@ -190,7 +190,7 @@ fn quoted_side(side: Side) -> &'static str
 fn write_values(reply: &ValuesReply, model: &Model, out: &mut Text)
     requires vector { HasVector model.now.levels reply.now }
     requires room { length out.old.bytes + MAX_REPLY ≤ out.old.room }
-    ensures bytes { out.new.bytes ≡ out.old.bytes ++ line_of (values_json model.now.levels reply.now) }
+    ensures bytes { out.new.bytes ≡ out.old.bytes ++ json_line (values_json model.now.levels reply.now) }
     ensures room { out.new.room ≡ out.old.room }
     ensures grown { length out.new.bytes ≤ length out.old.bytes + MAX_REPLY }
 {
@@ -203,7 +203,7 @@ fn write_values(reply: &ValuesReply, model: &Model, out: &mut Text)
 fn write_vector(vector: &Vector, model: &Model, out: &mut Text)
     requires vector { IsValueVector model.now.levels vector.now }
     requires room { length out.old.bytes + MAX_REPLY ≤ out.old.room }
-    ensures bytes { out.new.bytes ≡ out.old.bytes ++ line_of (named (codes "values") (vector_json model.now.levels vector.now)) }
+    ensures bytes { out.new.bytes ≡ out.old.bytes ++ json_line (named (codes "values") (vector_json model.now.levels vector.now)) }
     ensures room { out.new.room ≡ out.old.room }
     ensures grown { length out.new.bytes ≤ length out.old.bytes + MAX_REPLY }
 {
@@ -218,7 +218,7 @@ fn write_vector(vector: &Vector, model: &Model, out: &mut Text)
 
 fn write_incomplete(pair: &Pair, out: &mut Text)
     requires { length out.old.bytes + MAX_REPLY ≤ out.old.room }
-    ensures bytes { out.new.bytes ≡ out.old.bytes ++ line_of (incomplete_json pair.now) }
+    ensures bytes { out.new.bytes ≡ out.old.bytes ++ json_line (incomplete_json pair.now) }
     ensures room { out.new.room ≡ out.old.room }
     ensures grown { length out.new.bytes ≤ length out.old.bytes + MAX_REPLY }
 {
@@ -265,7 +265,7 @@ fn write_values_of(vector: &Vector, model: &Model, criterion: u8, out: &mut Text
 
 fn write_withdraw(reply: WithdrawReply, out: &mut Text)
     requires { length out.old.bytes + MAX_REPLY ≤ out.old.room }
-    ensures bytes { out.new.bytes ≡ out.old.bytes ++ line_of (withdraw_json reply) }
+    ensures bytes { out.new.bytes ≡ out.old.bytes ++ json_line (withdraw_json reply) }
     ensures room { out.new.room ≡ out.old.room }
     ensures grown { length out.new.bytes ≤ length out.old.bytes + MAX_REPLY }
 {
@@ -282,7 +282,7 @@ fn write_withdraw(reply: WithdrawReply, out: &mut Text)
 
 fn write_withdrawn(answer: u32, question: u32, out: &mut Text)
     requires { length out.old.bytes + MAX_REPLY ≤ out.old.room }
-    ensures bytes { out.new.bytes ≡ out.old.bytes ++ line_of (withdrawn_json answer question) }
+    ensures bytes { out.new.bytes ≡ out.old.bytes ++ json_line (withdrawn_json answer question) }
     ensures room { out.new.room ≡ out.old.room }
     ensures grown { length out.new.bytes ≤ length out.old.bytes + MAX_REPLY }
 {
@@ -295,7 +295,7 @@ fn write_withdrawn(answer: u32, question: u32, out: &mut Text)
 
 fn write_refused(word: Word, out: &mut Text)
     requires { length out.old.bytes + MAX_REPLY ≤ out.old.room }
-    ensures bytes { out.new.bytes ≡ out.old.bytes ++ line_of (refused_json word) }
+    ensures bytes { out.new.bytes ≡ out.old.bytes ++ json_line (refused_json word) }
     ensures room { out.new.room ≡ out.old.room }
     ensures grown { length out.new.bytes ≤ length out.old.bytes + MAX_REPLY }
 {

@@ -5,7 +5,7 @@ ghost use Rattle.criteria_model.specs.Worth.{IsValueVector, increments};
 ghost use Rattle.text_fields.specs.Reading.{read_certificate};
 ghost use Rattle.text_fields.specs.Spelling.{IsCertificate};
 ghost use Rattle.json_forms.specs.Members.{each};
-ghost use Rattle.json_forms.specs.Vectors.{positive_of, positive_in, positives_of, vector_in, vector_of};
+ghost use Rattle.json_forms.specs.Vectors.{positive_of, positive_in, positives_of, vector_in, values_vector};
 
 use crate::members::read_json;
 use criteria_model::{MAX_INCREMENTS, Model, Vector};
@@ -16,7 +16,7 @@ use text_fields::Fields;
 
 /// The vector of a values line, which is given without its line end; `None` where the line has none for this model.
 pub fn read_vector(alloc: Global, line: &[u8], model: &Model) -> Result<Option<Vector>, NoMemory>
-    ensures exact { IfOk result (λ vector. vector ≡ vector_of model.now.levels line.now) }
+    ensures exact { IfOk result (λ vector. vector ≡ values_vector model.now.levels line.now) }
     ensures positive { IfOk result (λ vector. IfSome vector (IsValueVector model.now.levels)) }
 {
     match read_json(alloc, line)? {
