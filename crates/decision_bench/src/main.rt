@@ -1,6 +1,7 @@
 //! Decides all classes of six criteria of four levels, along the answers that hidden values give: by
-//! `Tools::decide`, which looks before it solves (tools), by a solve with the dictionary of the decision before
-//! (warm), and by one with a dictionary that is loaded anew for each (cold). Without the word `time` it only counts.
+//! `Tools::decide`, which looks before it solves (tools), by one answer that suffices, else a solve
+//! with the dictionary of the decision before (one), by that solve alone (warm), and by one with a
+//! dictionary that is loaded anew for each (cold). Without the word `time` it only counts.
 #![tactic(auto)]
 
 mod hidden;
@@ -22,10 +23,12 @@ fn main(rt: HostRuntime) -> io::Result<()> {
     println!(rt; "degree start classes answers one_answer known implied undecided loads rows")?;
     let rounds = if timed { 20 } else { 1 };
     measure(&rt, rt.alloc(), 2, Start::Tools, rounds, timed)?;
+    measure(&rt, rt.alloc(), 2, Start::OneAnswer, rounds, timed)?;
     measure(&rt, rt.alloc(), 2, Start::Warm, rounds, timed)?;
     measure(&rt, rt.alloc(), 2, Start::Cold, rounds, timed)?;
     if timed {
         measure(&rt, rt.alloc(), 3, Start::Tools, 1, timed)?;
+        measure(&rt, rt.alloc(), 3, Start::OneAnswer, 1, timed)?;
         measure(&rt, rt.alloc(), 3, Start::Warm, 1, timed)?;
     }
     Ok(())

@@ -1,7 +1,8 @@
 //! A run of decisions along answers.
-ghost use Rattle.std.specs.Prelude.{◌≡◌, ◌-◌, ◌≤◌, length, All, pos, ◌≤ℤ◌};
+ghost use Rattle.std.specs.Prelude.{◌≡◌, ◌-◌, ◌≤◌, length, All, IfSome, pos, ◌≤ℤ◌};
 ghost use Rattle.criteria_model.specs.Worth.{increments, IsValueVector};
 ghost use Rattle.criteria_model.specs.Pairs.{IsFit};
+ghost use Rattle.criteria_model.specs.Answers.{MeetsAll};
 ghost use Rattle.decider.specs.Decisions.{IsDecision};
 ghost use Rattle.decider.specs.Reserved.{IsReserved};
 ghost use Rattle.decider.specs.Standing.{KeepsRoom};
@@ -10,7 +11,7 @@ ghost use Rattle.decision_bench.specs.Run.{IsUnderway};
 
 use crate::tally::Tally;
 use criteria_model::{Answer, MAX_INCREMENTS, Model, Pair, Side, Vector};
-use decider::{Decision, Tools, decide, point_with};
+use decider::{Decision, Snapshot, Tools, decide, implied_by_one, point_with};
 use pair_enumeration::Classes;
 
 /// How a decision is come to.
@@ -18,6 +19,8 @@ use pair_enumeration::Classes;
 pub enum Start {
     /// By `Tools::decide`, which solves last.
     Tools,
+    /// By one answer that suffices, else by a solve with the dictionary of the decision before.
+    OneAnswer,
     /// By a solve with the dictionary of the decision before.
     Warm,
     /// By a solve with a dictionary of no rows.
@@ -29,6 +32,7 @@ impl Start {
     pub fn word(self) -> &'static str {
         match self {
             Start::Tools => "tools",
+            Start::OneAnswer => "one",
             Start::Warm => "warm",
             Start::Cold => "cold",
         }
@@ -118,6 +122,11 @@ fn decide_from(model: &Model, pair: &Pair, start: Start, tools: &mut Tools) -> D
     if start == Start::Tools {
         return tools.decide(model, pair);
     }
+    if start == Start::OneAnswer {
+        if let Some(decision) = by_one_answer(model, pair, &tools.snapshot) {
+            return decision;
+        }
+    }
     if start == Start::Cold {
         tools.work.load(model.increments());
     }
@@ -129,6 +138,23 @@ fn decide_from(model: &Model, pair: &Pair, start: Start, tools: &mut Tools) -> D
         pair,
         &mut tools.work,
     )
+}
+
+/// What one answer says of the pair, where it suffices.
+fn by_one_answer(model: &Model, pair: &Pair, snapshot: &Snapshot) -> Option<Decision>
+    requires answers_fit { All (λ answer. IsFit model.now.levels answer.pair) snapshot.now.answers.answers }
+    requires meets { MeetsAll model.now.levels snapshot.now.answers.answers snapshot.now.point }
+    requires fits { IsFit model.now.levels pair.now }
+    ensures { IfSome result (λ decision. IsDecision model.now.levels snapshot.now.answers.answers pair.now decision) }
+{
+    let verdict = model.ranking(&snapshot.point, pair);
+    match implied_by_one(model, &snapshot.answers, pair, verdict) {
+        Some(combination) => Some(Decision::Implied {
+            verdict,
+            combination,
+        }),
+        None => None,
+    }
 }
 
 /// A vector of `count` ones.
