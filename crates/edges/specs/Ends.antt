@@ -45,3 +45,12 @@ free_of sink = sink.room - length sink.bytes
 -- what was put to a sink that never fails, while nothing was dropped
 abbrev pub told_bytes : QuietSinkView → Option (List ℕ)
 told_bytes sink = if sink.dropped == 0 then Some sink.bytes else None
+
+-- a door over memory: the ends still to come, and the faults so far
+pub record MemDoorView : Type 0 where
+  pub ends : List (MemSourceView × MemSinkView)
+  pub faults : ℕ
+
+-- a door over memory that was not called yet
+abbrev pub new_door : List (MemSourceView × MemSinkView) → MemDoorView
+new_door ends = record { ends = ends; faults = 0 }

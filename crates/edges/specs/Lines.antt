@@ -18,6 +18,10 @@ pub record LinesView : Type 0 where
 abbrev pub new_lines : ℕ → LinesView
 new_lines longest = record { kept = []; line = []; longest = longest; reserved = longest }
 
+-- the reader with another longest line
+abbrev pub limited : ℕ → LinesView → LinesView
+limited longest lines = record lines { longest = longest }
+
 -- the text that lies ahead of a reader: the bytes that it kept and then those left in its source
 abbrev pub ahead : LinesView → Option (List ℕ) → Option (List ℕ)
 ahead lines left = prepend_known lines.kept left

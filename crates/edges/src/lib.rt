@@ -8,11 +8,13 @@
 //! `MemSource` and `MemSink` are over memory and fail at the calls that a test names; `QuietSource`
 //! and `QuietSink` can't fail; `StdSource` and `StdSink` are the standard ends, which show nothing
 //! and are trusted. `Lines` has one buffer, taken by `reserve`: the longest line, its line end and
-//! 64 KiB of read-ahead; a line is a slice of it. `Text` has a fixed room. `laws` says that a text
+//! 64 KiB of read-ahead; a line is a slice of it. A `Gate` is told of points in the work, at which a `ScriptGate` may hold a test. `Text` has a fixed room. `laws` says that a text
 //! splits into lines in one way.
 #![tactic(auto)]
 
+mod doors;
 mod ends;
+mod gates;
 pub mod laws;
 mod line_reader;
 mod memory_ends;
@@ -20,7 +22,9 @@ mod quiet_ends;
 mod standard_ends;
 mod text_buffer;
 
+pub use doors::{Door, DoorEnds, MemDoor};
 pub use ends::{Failed, Sink, Source};
+pub use gates::{Gate, GatePoint, Hold, OpenGate, ScriptGate};
 pub use line_reader::{LineGot, Lines};
 pub use memory_ends::{MemSink, MemSource};
 pub use quiet_ends::{QuietSink, QuietSource};

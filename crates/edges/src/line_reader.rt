@@ -2,7 +2,7 @@
 ghost use Rattle.std.specs.Prelude.{◌≡◌, ◌≢◌, ℕ, List, Option, ◌+◌, ◌-◌, ◌<◌, ◌≤◌, [], ◌++◌, ◌∷◌, length, take, drop, slice_range, IfOk, OnOk, OnErr, Some, vec_len};
 ghost use Rattle.edges.specs.Faults.{CountsFaults, HasRisen};
 ghost use Rattle.edges.specs.Line.{HasLineEnd, HasNoLineEnd};
-ghost use Rattle.edges.specs.Lines.{Gives, GivesLine, IsFirstLineEnd, IsLineEndWithin, KeepsLimits, ahead, new_lines};
+ghost use Rattle.edges.specs.Lines.{Gives, GivesLine, IsFirstLineEnd, IsLineEndWithin, KeepsLimits, ahead, limited, new_lines};
 ghost use Rattle.edges.specs.Told.{IsAtEnd, Takes};
 
 use crate::NoMemory;
@@ -79,6 +79,14 @@ impl Lines {
             longest: reserved,
             reserved,
         })
+    }
+
+    /// Sets the longest length of the lines that follow, up to the one that was reserved.
+    pub fn limit(&mut self, longest: u32)
+        requires { longest ≤ self.old.reserved }
+        ensures { self.new ≡ limited longest self.old }
+    {
+        self.longest = longest as usize;
     }
 
     /// The line that the last call of `next_line` came upon, without its line end; empty after an
