@@ -29,6 +29,7 @@ impl Counts {
         counts
     }
 
+    /// Counts an event.
     fn add(&mut self, event: &Event) {
         match event {
             Event::Issue { .. } => self.asked = self.asked.saturating_add(1),

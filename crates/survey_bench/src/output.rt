@@ -14,7 +14,7 @@ use std::alloc::Global;
 use std::io;
 use survey_replies::Events;
 
-/// Standard output with a buffer for a line, or nothing.
+/// Standard output with a buffer for a line.
 #[derive(Drop)]
 pub struct Output {
     text: Text,
@@ -26,6 +26,11 @@ pub struct Output {
 }
 
 impl Output {
+    /// With `shows_replies` requests and replies are written, else only what is asked for at the end.
+    ///
+    /// # Errors
+    ///
+    /// Out of memory.
     pub fn new(alloc: Global, sink: StdSink, shows_replies: bool) -> Result<Output, NoMemory> {
         Ok(Output {
             text: Text::reserve(alloc, MAX_LINE)?,

@@ -37,12 +37,12 @@ pub fn perform<R: Respondent>(
         write_model(rt, model)?;
     }
     ask_at_random(rt, desk, model, &mut draws, count, &mut output)?;
-    let times = answer_all(rt, rt.alloc(), desk, model, &hidden, &mut output)?;
+    let calls = answer_all(rt, rt.alloc(), desk, model, &hidden, &mut output)?;
     exchange(rt, desk, model, Request::Values, &mut output)?;
     match order.task {
         Task::Replies | Task::Mixed { .. } => Ok(()),
         Task::Journal { .. } => output.put_journal(desk, model),
-        Task::Time => write_times(rt, model, &Counts::of(desk), &Times::of(times.as_slice())),
+        Task::Time => write_times(rt, model, &Counts::of(desk), &Times::of(calls.as_slice())),
     }
 }
 
