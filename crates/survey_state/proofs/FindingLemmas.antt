@@ -37,7 +37,7 @@ use Rattle.survey_state.specs.declared.findings.Finding.TheVariants.{Open, Ranke
 use Rattle.survey_state.specs.declared.findings.Found.{Found}
 use Rattle.survey_state.specs.States.{changes_answers, version_of, IsKept}
 use Rattle.survey_state.specs.Sought.{IsSought}
-use Rattle.survey_state.specs.Findings.{OpensByFirst, IsCertified, IsFinding, IsReadyFor, IsCopyOf, IsLook, LooksAt, IsFindingOf, IsFoundIn, IsFresh, IsCertifiedClass, MeetsWithClass, KeepsTools}
+use Rattle.survey_state.specs.Findings.{OpensByFirst, IsCertified, IsFinding, IsReadyFor, HasAnswersOf, IsLook, LooksAt, IsFindingOf, IsFoundIn, IsFresh, IsCertifiedClass, MeetsWithClass, KeepsTools}
 use Rattle.survey_state.proofs.RoomLemmas.{legal_front}
 
 -- ---- the answers, after events that change none
@@ -71,14 +71,14 @@ same_answers listed history (event ∷ more) legal none =
     ∙ same_after listed history sound event (none_changes (changes_answers event) (cond (changes_answers event) 1 0) refl (omega (arith, counts, one, none)))
 
 -- ---- copies
-pub copy_longer : (listed : Listed) (history more : List Event) (snapshot : Snapshot) → IsLegal listed (history ++ more) → IsCopyOf listed history snapshot
-    → snapshot.version ≡ version_of (history ++ more) → IsCopyOf listed (history ++ more) snapshot
+pub copy_longer : (listed : Listed) (history more : List Event) (snapshot : Snapshot) → IsLegal listed (history ++ more) → HasAnswersOf listed history snapshot
+    → snapshot.version ≡ version_of (history ++ more) → HasAnswersOf listed (history ++ more) snapshot
 copy_longer listed history more snapshot legal copy version =
     let none : count_by changes_answers more ≡ 0 = omega (arith, copy.version, version, count_by-append changes_answers history more) in
     record { answers = copy.answers ∙ sym (same_answers listed history more legal none); meets = copy.meets; version = version }
 
 pub copy_eliminated : (listed : Listed) (history after : List Event) (worker place : ℕ) (verdict : Side) (combination : Combination) (snapshot : Snapshot)
-    → IsLegal listed history → after ≡ history ++ Eliminate worker place verdict combination ∷ [] → IsCopyOf listed history snapshot → IsCopyOf listed after snapshot
+    → IsLegal listed history → after ≡ history ++ Eliminate worker place verdict combination ∷ [] → HasAnswersOf listed history snapshot → HasAnswersOf listed after snapshot
 copy_eliminated listed history after worker place verdict combination snapshot legal is copy =
     let event : Event = Eliminate worker place verdict combination in
     let count : version_of after ≡ version_of history =
@@ -158,7 +158,7 @@ found_in listed journal asked side snapshot look found is at place finding =
     record {
       within = omega (arith, len);
       sought = subst (λ (l : List Event). IsSought listed l asked found.place) (sym whole) (subst (λ (n : ℕ). IsSought listed journal asked n) (sym place) is.sought);
-      copy = subst (λ (l : List Event). IsCopyOf listed l snapshot) (sym whole) is.copy;
+      copy = subst (λ (l : List Event). HasAnswersOf listed l snapshot) (sym whole) is.copy;
       finding =
           some_at (class_at listed.classes found.place) (λ pair. IsFinding listed.criteria.levels snapshot.answers.answers pair side found.finding) look.pair class
           (subst (λ (criteria : Criteria). IsFinding criteria.levels snapshot.answers.answers look.pair side found.finding) here.model finding);
@@ -172,7 +172,7 @@ found_longer listed journal longer asked side snapshot found (more, whole) is =
     record {
       within = omega (arith, is.within, ap (λ (l : List Event). length l) whole, length-append journal more);
       sought = subst (λ (l : List Event). IsSought listed l asked found.place) (sym same) is.sought;
-      copy = subst (λ (l : List Event). IsCopyOf listed l snapshot) (sym same) is.copy;
+      copy = subst (λ (l : List Event). HasAnswersOf listed l snapshot) (sym same) is.copy;
       finding = is.finding;
     }
 
@@ -185,7 +185,7 @@ module _ (listed : Listed) (journal : List Event) (legal : IsLegal listed journa
       record {
         legal = legal;
         sought = subst (λ (l : List Event). IsSought listed l asked found.place) whole is.sought;
-        copy = subst (λ (l : List Event). IsCopyOf listed l snapshot) whole is.copy;
+        copy = subst (λ (l : List Event). HasAnswersOf listed l snapshot) whole is.copy;
       }
 
   -- the answers are the same
@@ -197,7 +197,7 @@ module _ (listed : Listed) (journal : List Event) (legal : IsLegal listed journa
         legal = legal;
         sought = subst (λ (n : ℕ). IsSought listed journal asked n) (sym same) sought;
         copy =
-            subst (λ (l : List Event). IsCopyOf listed l snapshot) whole
+            subst (λ (l : List Event). HasAnswersOf listed l snapshot) whole
             (copy_longer listed (take found.at journal) (drop found.at journal) snapshot
             (subst (λ (l : List Event). IsLegal listed l) (sym whole) legal) is.copy (version ∙ ap version_of (sym whole)));
       }

@@ -6,7 +6,7 @@ use mathlib.Core.List.{IsPrefix}
 use Rattle.survey_core.specs.declared.events.Event.{Event}
 use Rattle.survey_replies.specs.Calls.{Seen, TakesTurn}
 use Rattle.survey_state.specs.States.{Surveyed}
-use Rattle.survey_state.specs.Solos.{held_state, given_out}
+use Rattle.survey_state.specs.Solos.{held_state, journal_out}
 
 range_more : (from first rest all : ℕ) → all ≡ first + rest → range_with_len from all ≡ range_with_len from first ++ range_with_len (from + first) rest
 range_more from zero rest all is =
@@ -36,8 +36,8 @@ own_turn found after (more, whole) =
     }
 
 pub held_turn : (held : Option Surveyed) (last : Surveyed) (after : List Event)
-    → ((found : List Event) × (given_out held last ≡ Some found) × IsPrefix found after)
-    → (found : List Event) → given_out held last ≡ Some found → TakesTurn (all_own (held_state held last).journal) (all_own after) found
+    → ((found : List Event) × (journal_out held last ≡ Some found) × IsPrefix found after)
+    → (found : List Event) → journal_out held last ≡ Some found → TakesTurn (all_own (held_state held last).journal) (all_own after) found
 held_turn (Some state) last after longer found out = absurd (none-some found out)
 held_turn None last after longer found out =
     let same : last.journal ≡ found = same_Some last.journal found out in

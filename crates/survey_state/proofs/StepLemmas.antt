@@ -23,7 +23,7 @@ use Rattle.survey_state.specs.declared.findings.Found.{Found}
 use Rattle.survey_state.specs.declared.calls.Step.{Step}
 use Rattle.survey_state.specs.declared.calls.Step.TheVariants as step
 use Rattle.survey_state.specs.States.{Surveyed}
-use Rattle.survey_state.specs.Findings.{IsLook, LooksAt, IsCopyOf, IsEarlier}
+use Rattle.survey_state.specs.Findings.{IsLook, LooksAt, HasAnswersOf, IsEarlier}
 use Rattle.survey_state.specs.Sought.{IsSought}
 use Rattle.survey_state.specs.Turns.{AppendsEliminate, IsBefore, IsStep, SeeksOn, Grows, Advances, IsTurn}
 use Rattle.survey_state.proofs.FindingLemmas.{copy_eliminated}
@@ -104,7 +104,7 @@ module _ {R : Type 0} (outcome_of : R → Outcome) (desk : ℕ) (asked : Request
   longer : length new.journal ≡ length old.journal + 1
   longer = ap (λ (l : List Event). length l) appends.1 ∙ length-append old.journal (Eliminate 0 place verdict combination ∷ [])
 
-  pub eliminated_step : (made : Step R) → IsLegal old.listed old.journal → IsCopyOf old.listed old.journal snapshot → SeeksOn new.listed new.journal asked made
+  pub eliminated_step : (made : Step R) → IsLegal old.listed old.journal → HasAnswersOf old.listed old.journal snapshot → SeeksOn new.listed new.journal asked made
       → IsStep outcome_of desk asked old new snapshot made
   eliminated_step (step.Reply reply) legal copy none = absurd none
   eliminated_step step.Again legal copy short = before_reply

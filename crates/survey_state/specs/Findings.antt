@@ -56,7 +56,7 @@ pub record IsReadyFor (look : Look) (tools : Tools) : Type 0 where
   pub kept : IfSome look.kept (OpensByFirst look.model.levels tools.snapshot.answers.answers look.pair)
 
 -- a snapshot that has the journal's answers, a point that meets them, and the version
-pub record IsCopyOf (listed : Listed) (journal : List Event) (snapshot : Snapshot) : Type 0 where
+pub record HasAnswersOf (listed : Listed) (journal : List Event) (snapshot : Snapshot) : Type 0 where
   pub answers : snapshot.answers.answers ≡ committed listed.classes journal
   pub meets : MeetsAll listed.criteria.levels snapshot.answers.answers snapshot.point
   pub version : snapshot.version ≡ version_of journal
@@ -76,7 +76,7 @@ pub record IsLook (listed : Listed) (journal : List Event) (look : Look) : Type 
 pub record LooksAt (listed : Listed) (journal : List Event) (asked : Request) (snapshot : Snapshot) (look : Look) : Type 0 where
   pub look_at : IsLook listed journal look
   pub sought : IsSought listed journal asked look.place
-  pub copy : IsCopyOf listed journal snapshot
+  pub copy : HasAnswersOf listed journal snapshot
 
 -- what was found of the class at a place, by the answers of the snapshot
 abbrev pub IsFindingOf : Listed → Snapshot → Side → Found → Type 0
@@ -87,14 +87,14 @@ IsFindingOf listed snapshot side found =
 pub record IsFoundIn (listed : Listed) (journal : List Event) (asked : Request) (side : Side) (snapshot : Snapshot) (found : Found) : Type 0 where
   pub within : found.at ≤ length journal
   pub sought : IsSought listed (take found.at journal) asked found.place
-  pub copy : IsCopyOf listed (take found.at journal) snapshot
+  pub copy : HasAnswersOf listed (take found.at journal) snapshot
   pub finding : IsFindingOf listed snapshot side found
 
 -- the reply rests on the class at the place, and the snapshot has the journal's answers
 pub record IsFresh (listed : Listed) (journal : List Event) (asked : Request) (snapshot : Snapshot) (place : ℕ) : Type 0 where
   pub legal : IsLegal listed journal
   pub sought : IsSought listed journal asked place
-  pub copy : IsCopyOf listed journal snapshot
+  pub copy : HasAnswersOf listed journal snapshot
 
 -- what was found holds now
 pub record HoldsNow (listed : Listed) (journal : List Event) (asked : Request) (side : Side) (snapshot : Snapshot) (found : Found) : Type 0 where

@@ -11,9 +11,9 @@ held_state (Some state) last = state
 held_state None last = last
 
 -- the journal of the state that is out
-abbrev pub given_out : Option Surveyed → Surveyed → Option (List Event)
-given_out (Some state) last = None
-given_out None last = Some last.journal
+abbrev pub journal_out : Option Surveyed → Surveyed → Option (List Event)
+journal_out (Some state) last = None
+journal_out None last = Some last.journal
 
 -- the state is held, and the tools were reserved for its model
 pub record KeepsSolo (state : Option Surveyed) (last : Surveyed) (tools : Tools) : Type 0 where

@@ -4,7 +4,7 @@ ghost use Rattle.std.specs.List.{range_with_len};
 ghost use Rattle.pair_enumeration.specs.Listed.{Listed, IsListed};
 ghost use Rattle.survey_core.specs.Legal.{IsLegal};
 ghost use Rattle.survey_replies.specs.Calls.{Seen};
-ghost use Rattle.survey_state.specs.Solos.{held_state, given_out};
+ghost use Rattle.survey_state.specs.Solos.{held_state, journal_out};
 
 use crate::access::Access;
 use crate::answer::answer_by;
@@ -43,7 +43,7 @@ impl Access for Held {
       own = range_with_len 0 (length (held_state held.state held.last.value).journal);
     } };
 
-    ghost out = { λ held. given_out held.state held.last.value };
+    ghost out = { λ held. journal_out held.state held.last.value };
 
     ghost can_wait = { Unit {0} };
 
