@@ -10,6 +10,17 @@
 //!
 //! Memory is taken by `State::new` and `make_room` only: there is always enough for all events that
 //! may follow up to the next withdrawal, which `make_room` prepares.
+//!
+//! An `Access` is a way to a state in turns: `begin` gives it out, `finish` takes it back. The calls
+//! of a survey work over any: `next_by`, `answer_by`, `values_by` and `withdraw_by`, each one of the
+//! reply law. A turn names the class on which its reply rests; whether this is open is found out
+//! between turns, on a copy of the answers; the next turn eliminates it or replies. So no turn is
+//! held while anything is solved, and a class is looked at again only where the journal grew.
+//!
+//! `Solo` is a survey of one desk, whose calls wait for nobody.
+//!
+//! Inside: `calls` takes the turns of any call, `findings` looks at a class between them,
+//! `recording` puts events at the end; `next`, `answer`, `values` and `withdrawal` have the calls.
 #![tactic(auto)]
 
 mod access;
