@@ -15,7 +15,7 @@ expect() { # the status and the text that are wanted, the input, and the words
     fi
 }
 
-usage='usage: paprika check'
+usage='usage: paprika check | migrate'
 expect 0 'valid' examples/claims.txt check
 expect 0 'valid complete' examples/result.txt check
 expect 0 'valid' examples/withdrawn.txt check

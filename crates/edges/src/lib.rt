@@ -30,7 +30,7 @@ pub use memory_ends::{MemSink, MemSource};
 pub use quiet_ends::{QuietSink, QuietSource};
 pub use standard_ends::{StdSink, StdSource};
 pub use std::alloc::AllocError as NoMemory;
-pub use text_buffer::Text;
+pub use text_buffer::{Text, put_bytes};
 
 #[cfg(test)]
 mod tests;

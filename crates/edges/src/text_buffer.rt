@@ -79,7 +79,7 @@ impl Text {
 }
 
 /// Writes the bytes in order.
-fn put_bytes<K: Sink>(bytes: &[u8], sink: &mut K) -> Result<(), Failed>
+pub fn put_bytes<K: Sink>(bytes: &[u8], sink: &mut K) -> Result<(), Failed>
     ensures written { OnOk result (Appends (K.written sink.old) (K.written sink.new) bytes.now) }
     ensures quiet { OnOk result (K.faults sink.new ≡ K.faults sink.old) }
     ensures prefix { OnErr result (AppendsPrefix (K.written sink.old) (K.written sink.new) bytes.now) }

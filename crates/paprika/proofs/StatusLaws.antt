@@ -1,6 +1,7 @@
 -- What a status, and what was written, say of the file; and the status of a valid file.
-use Rattle.std.proofs.Common.{◌≡◌, ◌⊎◌, ℕ, ◌<◌, List, ◌∷◌, ◌++◌, length, take, zero, suc, ap, sym, subst, ◌∙◌, arith, inl, inr, length-append, length-take}
-use Rattle.std.specs.Prelude.{Option, Some, None, IfSome}
+use Rattle.std.proofs.Common.{◌≡◌, ◌⊎◌, ℕ, ◌<◌, List, ◌∷◌, ◌++◌, length, take, zero, suc, refl, ap, sym, subst, ◌∙◌, arith, inl, inr, length-append, length-take}
+use Rattle.std.specs.Prelude.{Option, Some, None, IfSome, Result, Ok, Err, Vec}
+use Rattle.std.specs.declared.alloc.Global.{Global}
 use Rattle.std.specs.Io.KnownBytes.{append_known}
 use Rattle.std.proofs.Math.Seq.{take-length}
 use Rattle.std.proofs.lemmas.List.{append_cancel_left}
@@ -9,11 +10,13 @@ use Rattle.edges.specs.Told.{Appends}
 use Rattle.result_file.specs.declared.verdicts.Checked.{Checked}
 use Rattle.result_file.specs.declared.verdicts.Checked.TheVariants.{Valid, ValidComplete, Invalid, Unfinished, ReadFault, NoMemory}
 use Rattle.result_file.specs.Checked.{IsChecked, IsFileOf, IsToldChecked}
-use Rattle.result_file.specs.Contents.{Content, IsCompleteContent}
+use Rattle.result_file.specs.Contents.{Content, of_events, IsCompleteContent}
+use Rattle.result_file.specs.Migrated.{BeginsClaims, IsRefused, IsMigrated}
+use Rattle.result_file.proofs.CopyLemmas.{result_begins}
 use Rattle.result_file.specs.Laws.{IsOnText}
 use Rattle.result_file.proofs.OneVerdict.{one_verdict_lem}
 use Rattle.result_file.proofs.WorthLaws.{worth}
-use Rattle.paprika.specs.Command.{Answers, ChecksFile, IsSoundFile, IsSettlingFile, IsWorthAnswer, IsValidFile, SaysComplete, Writes, verdict_line}
+use Rattle.paprika.specs.Command.{Answers, AnswersMigration, ChecksFile, MigratesFile, IsSoundFile, IsSettlingFile, IsWorthAnswer, IsValidFile, IsValidResult, SaysComplete, Writes, verdict_line}
 
 -- ---- status 0
 
@@ -127,3 +130,41 @@ pub done_where_valid : (told left before now : Option (List ℕ)) (status source
 done_where_valid told left before now status source_faults source_faults_now sink_faults sink_faults_now h reads writes valid no_read no_write =
     let checked : IsChecked valid.0 h.verdict = subst (λ (t : Option (List ℕ)). IsToldChecked t h.verdict) valid.2 h.checked in
     done_by h.verdict valid.0 valid.1 before now status valid.3 checked h.answered (λ e. no_read (reads.rises e)) (λ e. no_write (writes.rises e))
+
+-- ---- a valid result
+
+-- a valid result isn't refused
+not_refused_result : (text : List ℕ) (content : Content) (verdict : Checked) → IsFileOf content text → ¬ BeginsClaims text → IsRefused text verdict
+    → (verdict ≡ ReadFault) ⊎ (verdict ≡ NoMemory)
+not_refused_result text content Valid file no_claims refused = absurd refused
+not_refused_result text content ValidComplete file no_claims refused = absurd refused
+not_refused_result text content (Invalid line part) file no_claims refused =
+    absurd (not_other text content (Invalid line part) file (refused.1 no_claims) tt (λ e. cc) (λ e. cc))
+not_refused_result text content (Unfinished line) file no_claims refused =
+    absurd (not_other text content (Unfinished line) file refused.1 tt (λ e. cc) (λ e. cc))
+not_refused_result text content ReadFault file no_claims refused = inl refl
+not_refused_result text content NoMemory file no_claims refused = inr refl
+
+migrated_by : (outcome : Result (Vec ℕ Global) Checked) (text : List ℕ) (content : Content) (before now : Option (List ℕ)) (status : ℕ) → IsFileOf content text
+    → ¬ BeginsClaims text → IsMigrated (Some text) outcome → AnswersMigration outcome before now status → (status ≡ 3 → ⊥) → (status ≡ 4 → ⊥)
+    → (status ≡ 0) ⊎ (status ≡ 5)
+migrated_by (Ok copy) text content before now status file no_claims migrated answered no_fault not_failed =
+    done_or_failed copy.items before now status answered not_failed
+migrated_by (Err verdict) text content before now status file no_claims migrated answered no_fault not_failed =
+    elim (not_refused_result text content verdict file no_claims migrated) [
+      | inl fault ↦ (let silent : Answers ReadFault before now status = subst (λ (v : Checked). Answers v before now status) fault answered in absurd (no_fault silent.0))
+      | inr memory ↦ (let silent : Answers NoMemory before now status = subst (λ (v : Checked). Answers v before now status) memory answered in inr silent.0)
+    ]
+
+pub done_where_result : (told before now : Option (List ℕ)) (status source_faults source_faults_now sink_faults sink_faults_now : ℕ)
+    → MigratesFile told before now status → CountsFaults (status ≡ 3) source_faults source_faults_now → CountsFaults (status ≡ 4) sink_faults sink_faults_now
+    → IsValidResult told → (HasRisen source_faults source_faults_now → ⊥) → (HasRisen sink_faults sink_faults_now → ⊥) → (status ≡ 0) ⊎ (status ≡ 5)
+done_where_result told before now status source_faults source_faults_now sink_faults sink_faults_now h reads writes valid no_read no_write =
+    let migrated : IsMigrated (Some valid.0) h.outcome = subst (λ (t : Option (List ℕ)). IsMigrated t h.outcome) valid.1 h.migrated in
+    migrated_by h.outcome valid.0 (of_events valid.2.format valid.2.survey) before now status valid.2.file (result_begins valid.2.format valid.2.survey valid.0 valid.2.file) migrated h.answered
+    (λ e. no_read (reads.rises e)) (λ e. no_write (writes.rises e))
+
+-- ---- faults
+
+pub faults_as : (P Q : Type 0) (before now : ℕ) → CountsFaults P before now → (Q → P) → (P → Q) → CountsFaults Q before now
+faults_as P Q before now h there back = record { rises = λ q. h.rises (there q); stays = λ other. h.stays (λ p. other (back p)) }

@@ -1,5 +1,5 @@
 -- What a command writes, and the status that it ends with.
-use Rattle.std.specs.Prelude.{◌≡◌, ◌⊎◌, ℕ, List, [], ◌∷◌, ◌++◌, map, codes, Option, Some, String, IfSome}
+use Rattle.std.specs.Prelude.{◌≡◌, ◌⊎◌, ℕ, List, [], ◌∷◌, ◌++◌, map, codes, Option, Some, String, IfSome, Result, Ok, Err, Vec}
 use Rattle.std.specs.Fmt.{decimal}
 use Rattle.std.specs.String.{string_bytes}
 use Rattle.std.specs.declared.alloc.Global.{Global}
@@ -10,15 +10,34 @@ use Rattle.result_file.specs.Words.{part_text}
 use Rattle.result_file.specs.Verdicts.{EndsInput}
 use Rattle.result_file.specs.Checked.{IsFileOf, IsToldChecked}
 use Rattle.result_file.specs.Contents.{Content}
+use Rattle.result_file.specs.Migrated.{IsMigrated, IsResultFile}
+use Rattle.paprika.specs.declared.command.Command.{Command}
+use Rattle.paprika.specs.declared.command.Command.TheVariants.{Check, Migrate}
 use Rattle.result_file.specs.Worth.{EliminationsAreSound, SettlesAll}
 
--- the words are the one word `check`
+-- the words are this one word
+abbrev pub AreWord : List ℕ → List (String Global) → Type 0
+AreWord text words = map (λ word. string_bytes word) words ≡ text ∷ []
+
+-- the words are the one word `check`, or the one word `migrate`
 abbrev pub IsCheck : List (String Global) → Type 0
-IsCheck words = map (λ word. string_bytes word) words ≡ codes "check" ∷ []
+IsCheck words = AreWord (codes "check") words
+
+abbrev pub IsMigrate : List (String Global) → Type 0
+IsMigrate words = AreWord (codes "migrate") words
+
+-- the words are those of no command
+abbrev pub IsNoCommand : List (String Global) → Type 0
+IsNoCommand words = (¬ IsCheck words) × (¬ IsMigrate words)
+
+-- the words are those of this command
+abbrev pub HasCommand : List (String Global) → Command → Type 0
+HasCommand words Check = IsCheck words
+HasCommand words Migrate = IsMigrate words
 
 -- the line that words of no command get
 abbrev pub usage_line : List ℕ
-usage_line = codes "usage: paprika check\n"
+usage_line = codes "usage: paprika check | migrate\n"
 
 -- the line of a verdict
 abbrev pub verdict_line : Checked → List ℕ
@@ -80,3 +99,18 @@ pub record IsWorthAnswer (told before now : Option (List ℕ)) (status : ℕ) : 
 -- the source holds the text of a valid file, and that is known
 abbrev pub IsValidFile : Option (List ℕ) → Type 0
 IsValidFile told = (text : List ℕ) × (content : Content) × (told ≡ Some text) × IsFileOf content text
+
+-- how a migration is answered: by the copy with status 0, or as the check's verdict is
+abbrev pub AnswersMigration : Result (Vec ℕ Global) Checked → Option (List ℕ) → Option (List ℕ) → ℕ → Type 0
+AnswersMigration (Ok copy) before now status = Writes copy.items 0 before now status
+AnswersMigration (Err verdict) before now status = Answers verdict before now status
+
+-- the result of a source was copied into the second format or refused, and that answered
+pub record MigratesFile (told before now : Option (List ℕ)) (status : ℕ) : Type 0 where
+  pub outcome : Result (Vec ℕ Global) Checked
+  pub migrated : IsMigrated told outcome
+  pub answered : AnswersMigration outcome before now status
+
+-- the source holds the text of a valid result, and that is known
+abbrev pub IsValidResult : Option (List ℕ) → Type 0
+IsValidResult told = (text : List ℕ) × (told ≡ Some text) × IsResultFile text

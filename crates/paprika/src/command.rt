@@ -1,14 +1,14 @@
-ghost use Rattle.std.specs.Prelude.{◌≡◌, ◌≢◌, ◌↔◌, ◌⊎◌, [], IsTrue};
+ghost use Rattle.std.specs.Prelude.{◌≡◌, ◌≢◌, ◌↔◌, ◌⊎◌, [], IsTrue, MatchOption};
 ghost use Rattle.edges.specs.Faults.{CountsFaults, HasRisen};
-ghost use Rattle.paprika.specs.Command.{IsCheck, verdict_line, Writes, ChecksFile, IsWorthAnswer, IsValidFile, ShowsUsage};
+ghost use Rattle.paprika.specs.Command.{AreWord, IsCheck, IsMigrate, IsNoCommand, HasCommand, verdict_line, Writes, Answers, ChecksFile, MigratesFile, IsWorthAnswer, IsValidFile, IsValidResult, ShowsUsage};
 
-use edges::{Sink, Source, Text};
+use edges::{Sink, Source, Text, put_bytes};
 use itoa::Buffer;
-use result_file::{Checked, check_result};
+use result_file::{Checked, check_result, migrate_result};
 use std::alloc::Global;
 
 /// The line that words of no command get.
-const USAGE: &[u8] = b"usage: paprika check\n";
+const USAGE: &[u8] = b"usage: paprika check | migrate\n";
 
 /// The longest line that is written, and more.
 const ROOM: u32 = 64;
@@ -34,8 +34,9 @@ pub fn plain_command<S: Source, K: Sink>(
     sink: &mut K,
 ) -> u8
     ensures check { IsCheck words.now → ChecksFile (S.left source.old) (S.left source.new) (K.written sink.old) (K.written sink.new) result }
-    ensures usage { (¬ IsCheck words.now) → ShowsUsage (K.written sink.old) (K.written sink.new) result }
-    ensures unread { (¬ IsCheck words.now) → source.new ≡ source.old }
+    ensures migrate { IsMigrate words.now → MigratesFile (S.left source.old) (K.written sink.old) (K.written sink.new) result }
+    ensures usage { IsNoCommand words.now → ShowsUsage (K.written sink.old) (K.written sink.new) result }
+    ensures unread { IsNoCommand words.now → source.new ≡ source.old }
     ensures read_fault { CountsFaults (result ≡ 3) (S.faults source.old) (S.faults source.new) }
     ensures write_fault { CountsFaults (result ≡ 4) (K.faults sink.old) (K.faults sink.new) }
     ensures worth { IsCheck words.now → IsWorthAnswer (S.left source.old) (K.written sink.old) (K.written sink.new) result }
@@ -44,43 +45,108 @@ pub fn plain_command<S: Source, K: Sink>(
     ensures done { IsCheck words.now → IsValidFile (S.left source.old)
         → (¬ HasRisen (S.faults source.old) (S.faults source.new)) → (¬ HasRisen (K.faults sink.old) (K.faults sink.new))
         → (result ≡ 0) ⊎ (result ≡ 5) }
+    ensures migrated { IsMigrate words.now → IsValidResult (S.left source.old)
+        → (¬ HasRisen (S.faults source.old) (S.faults source.new)) → (¬ HasRisen (K.faults sink.old) (K.faults sink.new))
+        → (result ≡ 0) ⊎ (result ≡ 5) }
 {
-    run(alloc, words, source, sink)
+    match command_of(words) {
+        None => show_usage(alloc, sink),
+        Some(Command::Check) => check(alloc, source, sink),
+        Some(Command::Migrate) => migrate(alloc, source, sink),
+    }
 }
 
-/// Does what the words say, and returns the status.
-fn run<S: Source, K: Sink>(alloc: Global, words: &[String], source: &mut S, sink: &mut K) -> u8
-    ensures check { IsCheck words.now → ChecksFile (S.left source.old) (S.left source.new) (K.written sink.old) (K.written sink.new) result }
-    ensures usage { (¬ IsCheck words.now) → ShowsUsage (K.written sink.old) (K.written sink.new) result }
-    ensures unread { (¬ IsCheck words.now) → source.new ≡ source.old }
-    ensures read_fault { CountsFaults (result ≡ 3) (S.faults source.old) (S.faults source.new) }
+/// What the program does.
+#[derive(Clone, Copy)]
+enum Command {
+    /// Checks a file.
+    Check,
+    /// Copies a result into the second format.
+    Migrate,
+}
+
+/// The command of these words.
+fn command_of(words: &[String]) -> Option<Command>
+    ensures { MatchOption result (IsNoCommand words.now) (λ command. HasCommand words.now command) }
+{
+    if are_word(words, "check") {
+        return Some(Command::Check);
+    }
+    if are_word(words, "migrate") {
+        return Some(Command::Migrate);
+    }
+    None
+}
+
+/// Whether the words are this one.
+fn are_word(words: &[String], text: &str) -> bool
+    ensures { IsTrue result ↔ AreWord text.now words.now }
+{
+    match words {
+        [word] => word.as_str() == text,
+        _ => false,
+    }
+}
+
+/// Writes the usage line.
+fn show_usage<K: Sink>(alloc: Global, sink: &mut K) -> u8
+    ensures usage { ShowsUsage (K.written sink.old) (K.written sink.new) result }
+    ensures no_read_fault { result ≢ 3 }
     ensures write_fault { CountsFaults (result ≡ 4) (K.faults sink.old) (K.faults sink.new) }
 {
     let mut text = match Text::reserve(alloc, ROOM) {
         Ok(text) => text,
         Err(_) => return NO_MEMORY,
     };
-    if !is_check(words) {
-        text.add(USAGE);
-        return write(text, USAGE_STATUS, sink);
-    }
+    text.add(USAGE);
+    write(text.bytes(), USAGE_STATUS, sink)
+}
+
+/// Checks the file of the source.
+fn check<S: Source, K: Sink>(alloc: Global, source: &mut S, sink: &mut K) -> u8
+    ensures checked { ChecksFile (S.left source.old) (S.left source.new) (K.written sink.old) (K.written sink.new) result }
+    ensures read_fault { CountsFaults (result ≡ 3) (S.faults source.old) (S.faults source.new) }
+    ensures write_fault { CountsFaults (result ≡ 4) (K.faults sink.old) (K.faults sink.new) }
+{
+    let text = match Text::reserve(alloc, ROOM) {
+        Ok(text) => text,
+        Err(_) => return NO_MEMORY,
+    };
     let verdict = check_result(alloc, source);
-    add_line(&mut text, verdict);
-    match verdict {
-        Checked::Valid | Checked::ValidComplete => write(text, DONE, sink),
-        Checked::Invalid { .. } | Checked::Unfinished { .. } => write(text, REFUSED, sink),
-        Checked::ReadFault => READ_FAULT,
-        Checked::NoMemory => NO_MEMORY,
+    answer(text, verdict, sink)
+}
+
+/// Copies the result of the source into the second format.
+fn migrate<S: Source, K: Sink>(alloc: Global, source: &mut S, sink: &mut K) -> u8
+    ensures migrated { MigratesFile (S.left source.old) (K.written sink.old) (K.written sink.new) result }
+    ensures read_fault { CountsFaults (result ≡ 3) (S.faults source.old) (S.faults source.new) }
+    ensures write_fault { CountsFaults (result ≡ 4) (K.faults sink.old) (K.faults sink.new) }
+{
+    let text = match Text::reserve(alloc, ROOM) {
+        Ok(text) => text,
+        Err(_) => return NO_MEMORY,
+    };
+    match migrate_result(alloc, source) {
+        Ok(copy) => write(copy.as_slice(), DONE, sink),
+        Err(verdict) => answer(text, verdict, sink),
     }
 }
 
-/// Whether the words are the one word `check`.
-fn is_check(words: &[String]) -> bool
-    ensures { IsTrue result ↔ IsCheck words.now }
+/// Answers a verdict by its line, in an empty text, and by its status.
+fn answer<K: Sink>(text: Text, verdict: Checked, sink: &mut K) -> u8
+    requires empty { text.bytes ≡ [] }
+    requires room { text.room ≡ 64 }
+    ensures answered { Answers verdict (K.written sink.old) (K.written sink.new) result }
+    ensures read_fault { (result ≡ 3) ↔ (verdict ≡ Checked.ReadFault) }
+    ensures write_fault { CountsFaults (result ≡ 4) (K.faults sink.old) (K.faults sink.new) }
 {
-    match words {
-        [word] => word.as_str() == "check",
-        _ => false,
+    let mut text = text;
+    add_line(&mut text, verdict);
+    match verdict {
+        Checked::Valid | Checked::ValidComplete => write(text.bytes(), DONE, sink),
+        Checked::Invalid { .. } | Checked::Unfinished { .. } => write(text.bytes(), REFUSED, sink),
+        Checked::ReadFault => READ_FAULT,
+        Checked::NoMemory => NO_MEMORY,
     }
 }
 
@@ -110,13 +176,13 @@ fn add_line(text: &mut Text, verdict: Checked)
 }
 
 /// Writes the text, and returns the status or that of a sink that failed.
-fn write<K: Sink>(text: Text, status: u8, sink: &mut K) -> u8
-    requires { status ≢ 4 }
-    ensures written { Writes text.bytes status (K.written sink.old) (K.written sink.new) result }
+fn write<K: Sink>(text: &[u8], status: u8, sink: &mut K) -> u8
+    requires status { status ≢ 4 }
+    ensures written { Writes text.now status (K.written sink.old) (K.written sink.new) result }
+    ensures either { (result ≡ status) ⊎ (result ≡ 4) }
     ensures write_fault { CountsFaults (result ≡ 4) (K.faults sink.old) (K.faults sink.new) }
 {
-    let mut text = text;
-    match text.put_all(sink) {
+    match put_bytes(text, sink) {
         Ok(()) => status,
         Err(_) => WRITE_FAULT,
     }

@@ -296,7 +296,7 @@ fn expect_usage(rt: &impl Abort, alloc: Global, words: &[String]) -> Result<(), 
     let mut source = QuietSource::new(alloc, b"")?;
     let mut sink = QuietSink::new(alloc, 64)?;
     assert_eq!(rt; plain_command(alloc, words, &mut source, &mut sink), 2);
-    assert!(rt; sink.bytes() == b"usage: paprika check\n".as_slice());
+    assert!(rt; sink.bytes() == b"usage: paprika check | migrate\n".as_slice());
     Ok(())
 }
 

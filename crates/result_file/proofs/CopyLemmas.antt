@@ -317,3 +317,13 @@ memory_faults before now same = record { rises = λ is. absurd cc; stays = λ ot
 -- a reader that kept nothing
 pub ahead_none : (lines : LinesView) (left : Option (List ℕ)) → lines.kept ≡ [] → ahead lines left ≡ left
 ahead_none lines left none = rw none (prepend_known-nil left)
+
+-- a result doesn't begin as claims do
+pub result_begins : (format : Format) (survey : Recorded) (text : List ℕ) → IsFileOf (of_events format survey) text → ¬ BeginsClaims text
+result_begins format survey text file =
+    let top : List ℕ = heading (kinds.Result format) in
+    let rest : List (List ℕ) = model_line survey.listed.criteria ∷ map (event_line survey.listed.classes) survey.history in
+    elim file.lines [
+      | inl unclosed ↦ begins_result format (unlines rest ++ end_line) text (unclosed ∙ append_assoc top (line_end ∷ unlines rest) end_line ∙ sym (append_assoc top (line_end ∷ []) (unlines rest ++ end_line)))
+      | inr closed ↦ begins_result format (unlines (rest ++ end_line ∷ [])) text (closed ∙ sym (append_assoc top (line_end ∷ []) (unlines (rest ++ end_line ∷ []))))
+    ]

@@ -19,6 +19,12 @@ use Rattle.result_file.specs.Texts.{heading}
 abbrev pub BeginsClaims : List ℕ → Type 0
 BeginsClaims text = (rest : List ℕ) × (text ≡ heading kinds.Claims ++ line_end ∷ rest)
 
+-- the text is the file of a survey, in some format
+pub record IsResultFile (text : List ℕ) : Type 0 where
+  pub format : Format
+  pub survey : Recorded
+  pub file : IsFileOf (of_events format survey) text
+
 -- a verdict on a file that is whole and right
 abbrev pub IsAccepted : Checked → Type 0
 IsAccepted Valid = Unit {0}

@@ -1,10 +1,10 @@
 use Rattle.std.proofs.Common.{◌≡◌, [], ap, refl, ◌∙◌, inl}
 use Rattle.edges.specs.Text.{TextView}
 use Rattle.paprika.specs.Command.{usage_line}
-use Rattle.paprika.proofs.command.run.Goals as goal
+use Rattle.paprika.proofs.command.show_usage.Goals as goal
 
-pub returns-then-not-is_check-clause-usage : goal.returns-then-not-is_check-clause-usage
-returns-then-not-is_check-clause-usage g c = λ _.
+pub returns-clause-usage : goal.returns-clause-usage
+returns-clause-usage g c =
     let empty : c.in-Ok.text.bytes ≡ [] = ap (λ (t : TextView). t.bytes) c.in-Ok.ensures in
-    let text : c.add.new.self.bytes ≡ usage_line = c.add.ensures.bytes ∙ rw empty refl in
+    let text : c.bytes.result.now ≡ usage_line = c.bytes.ensures ∙ c.add.ensures.bytes ∙ rw empty refl in
     inl (rw text at c.write.ensures.written)
