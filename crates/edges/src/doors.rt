@@ -130,3 +130,6 @@ impl Door for MemDoor {
         }
     }
 }
+
+#[cfg(test)]
+mod tests;

@@ -129,3 +129,6 @@ impl Gate for ScriptGate {
         }
     }
 }
+
+#[cfg(test)]
+mod tests;
