@@ -69,7 +69,8 @@ last true xs x h = cc h
 last false xs x h = refl
 
 -- a text is among texts exactly where its bytes are among their bytes
-pub any_text : (text : String Global) (texts : List (String Global)) → list_any (λ other. bytes_eq (string_bytes text) (string_bytes other)) texts ≡ list_any (bytes_eq (string_bytes text)) (map string_bytes texts)
+pub any_text : (text : String Global) (texts : List (String Global))
+    → list_any (λ other. bytes_eq (string_bytes text) (string_bytes other)) texts ≡ list_any (bytes_eq (string_bytes text)) (map string_bytes texts)
 any_text text [] = refl
 any_text text (other ∷ texts) = ap (λ rest. bytes_eq (string_bytes text) (string_bytes other) || rest) (any_text text texts)
 
@@ -78,7 +79,8 @@ found_or true v found rest h = refl
 found_or false v found rest h = h
 
 -- a key is found exactly where its bytes are among the names
-pub any_name : {V : Type 0} (key : String Global) (entries : List (String Global × V)) → is_some (lookup (λ other. bytes_eq (string_bytes key) (string_bytes other)) entries) ≡ list_any (bytes_eq (string_bytes key)) (map name_of entries)
+pub any_name : {V : Type 0} (key : String Global) (entries : List (String Global × V))
+    → is_some (lookup (λ other. bytes_eq (string_bytes key) (string_bytes other)) entries) ≡ list_any (bytes_eq (string_bytes key)) (map name_of entries)
 any_name key [] = refl
 any_name key (entry ∷ entries) =
     found_or (bytes_eq (string_bytes key) (string_bytes entry.0)) entry.1 (lookup (λ other. bytes_eq (string_bytes key) (string_bytes other)) entries) _ (any_name key entries)
@@ -116,7 +118,8 @@ module _ (text : String Global) (keys done : List (String Global)) (added : Bool
 
   pub text-kept : (now : List (String Global)) → added ≡ true → now ≡ insert_key (λ one other. bytes_eq (string_bytes one) (string_bytes other)) keys text → now ≡ done ++ text ∷ []
   text-kept now taken inserted =
-      inserted ∙ last (list_any (λ other. bytes_eq (string_bytes text) (string_bytes other)) keys) keys text (unturned (list_any (λ other. bytes_eq (string_bytes text) (string_bytes other)) keys) (sym is ∙ taken))
+      let seen : Bool = list_any (λ other. bytes_eq (string_bytes text) (string_bytes other)) keys in
+      inserted ∙ last seen keys text (unturned seen (sym is ∙ taken))
       ∙ ap (λ front. front ++ text ∷ []) kept
 
 module _ {V : Type 0} (key : String Global) (entries done : List (String Global × V)) (kept : entries ≡ done) where
@@ -140,7 +143,8 @@ criterion_names [] = refl
 criterion_names (e ∷ entries) = ap (λ names. string_bytes e.0 ∷ names) (criterion_names entries)
 
 -- what is known of the names and of each criterion's levels, together
-pub criteria_end : {M S : Type 0} (entries : M → List (String Global × IndexSet (String Global) S)) (found : Option M) (kept : List (String Global × IndexSet (String Global) S)) (views : List CriterionView)
+pub criteria_end : {M S : Type 0} (entries : M → List (String Global × IndexSet (String Global) S)) (found : Option M)
+    (kept : List (String Global × IndexSet (String Global) S)) (views : List CriterionView)
     → map kept_criterion kept ≡ views → list_any (λ (c : CriterionView). repeats c.levels) views ≡ false
     → MatchOption found (repeats (map name_of kept) ≡ true) (λ m. (entries m ≡ kept) × (repeats (map name_of kept) ≡ false))
     → MatchOption found (repeats_criteria views ≡ true) (λ m. (map kept_criterion (entries m) ≡ views) × (repeats_criteria views ≡ false))

@@ -24,6 +24,8 @@ loop-name-preserved g c =
     record {
       whole = step_whole at.yielded (into_iter_items c.next.new.self) (into_iter_items at.name-iterator) _ (c.in-Some.name, c.in-Some.value) steps at.invariant.whole;
       len = omega (arith, at.invariant.len, gone, short);
-      kept = c.in_ok-insert.ensures.entries ∙ insert_entry-new string_eq at.found c.in-Some.name c.in-Some.value (none_found _ none) ∙ ap (λ entries. entries ++ (c.in-Some.name, c.in-Some.value) ∷ []) at.invariant.kept;
-      once = shown-new name_of c.args.entries.items at.yielded (into_iter_items c.next.new.self) (c.in-Some.name, c.in-Some.value) at.invariant.once (name-is c.in-Some.name at.found.entries at.yielded at.invariant.kept false none);
+      kept = c.in_ok-insert.ensures.entries ∙ insert_entry-new string_eq at.found c.in-Some.name c.in-Some.value (none_found _ none)
+          ∙ ap (λ entries. entries ++ (c.in-Some.name, c.in-Some.value) ∷ []) at.invariant.kept;
+      once = shown-new name_of c.args.entries.items at.yielded (into_iter_items c.next.new.self) (c.in-Some.name, c.in-Some.value) at.invariant.once
+          (name-is c.in-Some.name at.found.entries at.yielded at.invariant.kept false none);
     }

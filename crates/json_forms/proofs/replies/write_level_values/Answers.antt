@@ -1,10 +1,9 @@
-use Rattle.std.proofs.Common.{◌≡◌, ℕ, ◌<◌, ◌++◌, ◌∙◌, false, length, map, ap, arith}
+use Rattle.std.proofs.Common.{◌≡◌, ℕ, ◌+◌, ◌<◌, ◌++◌, ◌∙◌, false, length, map, ap, arith}
 use Rattle.std.specs.List.{range_with_len}
-use Rattle.criteria_model.proofs.LevelLemmas.{length-le-increments}
 use Rattle.json_forms.specs.Json.{array_of, certificate}
 use Rattle.json_forms.specs.Replies.{level_values}
 use Rattle.json_forms.proofs.ArrayLemmas.{front, range_more, array_end}
-use Rattle.json_forms.proofs.LevelLemmas.{increments_more, increments_more_le, increments-take-le, first-place}
+use Rattle.json_forms.proofs.LevelLemmas.{increments_more, few_bytes, first-place}
 use Rattle.json_forms.proofs.replies.write_level_values.Goals as goal
 
 pub separate-requires : goal.separate-requires
@@ -12,11 +11,8 @@ separate-requires c =
     let model = c.criteria-place-end.ensures.model in
     omega (
       arith,
-      length-le-increments c.args.model.now.levels model.two_levels,
-      model.few_increments,
-      increments-take-le c.args.model.now.levels c.loop-place.place,
-      c.criteria-place-end.ensures.value,
-      c.loop-place-test.true,
+      few_bytes c.args.model.now.levels c.loop-place.place model.two_levels model.few_increments
+          (omega (arith, c.criteria-place-end.ensures.value, c.loop-place-test.true)),
       c.loop-place.invariant.short,
       c.loop-place.invariant.room,
       c.put.ensures.grown,
@@ -31,11 +27,8 @@ write_values_of-requires-clause-room c =
     rw (first-place c.loop-place.place)
     (omega (
       arith,
-      length-le-increments c.args.model.now.levels model.two_levels,
-      model.few_increments,
-      increments_more_le c.args.model.now.levels c.loop-place.place within,
-      c.criteria-place-end.ensures.value,
-      c.loop-place-test.true,
+      few_bytes c.args.model.now.levels (c.loop-place.place + 1) model.two_levels model.few_increments (omega (arith, within)),
+      increments_more c.args.model.now.levels c.loop-place.place within,
       c.loop-place.invariant.short,
       c.loop-place.invariant.room,
       c.put.ensures.grown,
@@ -50,7 +43,8 @@ loop-place-preserved c =
     let levels = c.args.model.now.levels in
     let within : c.loop-place.place < length c.args.model.now.levels = omega (arith, c.criteria-place-end.ensures.value, c.loop-place-test.true) in
     record {
-      out = range_more (λ criterion. array_of certificate (level_values levels c.args.vector.now criterion)) c.loop-place.place c.put.new.out.bytes c.loop-place.out.bytes c.separate.new.out.bytes c.write_values_of.new.out.bytes
+      out = range_more (λ criterion. array_of certificate (level_values levels c.args.vector.now criterion)) c.loop-place.place
+          c.put.new.out.bytes c.loop-place.out.bytes c.separate.new.out.bytes c.write_values_of.new.out.bytes
           c.loop-place.invariant.out c.separate.ensures.bytes c.write_values_of.ensures.bytes;
       short = omega (
         arith,
@@ -67,11 +61,8 @@ put-requires-2 c =
     let model = c.criteria-place-end.ensures.model in
     omega (
       arith,
-      length-le-increments c.args.model.now.levels model.two_levels,
-      model.few_increments,
-      increments-take-le c.args.model.now.levels c.loop-place.place,
-      c.criteria-place-end.ensures.value,
-      c.loop-place.auto.place-end,
+      few_bytes c.args.model.now.levels c.loop-place.place model.two_levels model.few_increments
+          (omega (arith, c.criteria-place-end.ensures.value, c.loop-place.auto.place-end)),
       c.loop-place.invariant.short,
       c.loop-place.invariant.room,
       c.put.ensures.grown,
@@ -92,11 +83,8 @@ returns-clause-grown c =
     let model = c.criteria-place-end.ensures.model in
     omega (
       arith,
-      length-le-increments c.args.model.now.levels model.two_levels,
-      model.few_increments,
-      increments-take-le c.args.model.now.levels c.loop-place.place,
-      c.criteria-place-end.ensures.value,
-      c.loop-place.auto.place-end,
+      few_bytes c.args.model.now.levels c.loop-place.place model.two_levels model.few_increments
+          (omega (arith, c.criteria-place-end.ensures.value, c.loop-place.auto.place-end)),
       c.loop-place.invariant.short,
       c.put.ensures.grown,
       c.put-2.ensures.grown,
