@@ -1,5 +1,5 @@
 -- Why the replies that a state gives are right.
-use Rattle.std.proofs.Common.{◌≡◌, ◌⊎◌, ◌↔◌, ℕ, suc, ◌+◌, ◌<◌, ◌≤◌, ◌==◌, Bool, true, false, cond, ◌||◌, IsTrue, IsFalse, List, [], ◌∷◌, ◌++◌, length, Option, Some, None, IsSomeAnd, Contains, ℤ, refl, ap, sym, subst, ◌∙◌, inl, inr, arith, append-nil, append_assoc}
+use Rattle.std.proofs.Common.{length-append, ◌≡◌, ◌⊎◌, ◌↔◌, ℕ, suc, ◌+◌, ◌<◌, ◌≤◌, ◌==◌, Bool, true, false, cond, ◌||◌, IsTrue, IsFalse, List, [], ◌∷◌, ◌++◌, length, Option, Some, None, IsSomeAnd, Contains, ℤ, refl, ap, sym, subst, ◌∙◌, inl, inr, arith, append-nil, append_assoc}
 use Rattle.std.specs.Option.{option_and_then}
 use Rattle.std.specs.Prelude.{is_some, MatchOption}
 use Rattle.std.specs.List.{list_any, filter_map, cons_option}
@@ -28,7 +28,7 @@ use Rattle.survey_core.specs.Laws.{HasRanking, RanksEachClass}
 use Rattle.survey_core.specs.States.{Asks}
 use Rattle.survey_core.proofs.ListSteps.{some_and, some_at}
 use Rattle.survey_core.proofs.KeptLemmas.{or_left, or_right}
-use Rattle.survey_core.proofs.StandingLemmas.{standing-push}
+use Rattle.survey_core.proofs.StandingLemmas.{standing-push, issued-push}
 use Rattle.survey_core.proofs.SoundLemmas.{sound_history}
 use Rattle.survey_core.proofs.NamedParts.{MayClose, unnamed}
 use Rattle.survey_core.proofs.NextKept.{open_uncommitted}
@@ -396,16 +396,10 @@ module _ (listed now_listed : Listed) (journal history : List Event) (same_liste
         (λ h. subst (λ (n : ℕ). IsSpent n withdrawn) (sym all) (subst (λ (n : ℕ). IsSpent (length listed.classes) n) (sym times) h)),
       )
 
-one_more : {Y : Type 0} (found : Option Y) (rest : List Y) (most : ℕ) → length rest ≤ most → length (cons_option found rest) ≤ suc most
-one_more None rest most few = omega (arith, few)
-one_more (Some y) rest most few = omega (arith, few)
-
-filtered_few : {X Y : Type 0} (f : X → Option Y) (xs : List X) → length (filter_map f xs) ≤ length xs
-filtered_few f [] = omega arith
-filtered_few f (x ∷ xs) = one_more (f x) (filter_map f xs) (length xs) (filtered_few f xs)
-
-pub few_issued : (journal : List Event) → length (issued journal) ≤ length journal
-few_issued journal = filtered_few issued_place journal
+pub one_issued : (journal : List Event) (desk place : ℕ) (plus minus : List ℤ)
+    → length (issued (journal ++ Issue desk place plus minus ∷ [])) ≡ length (issued journal) + 1
+one_issued journal desk place plus minus =
+    ap (λ (l : List ℕ). length l) (issued-push journal (Issue desk place plus minus)) ∙ length-append (issued journal) (place ∷ [])
 
 -- ---- options that are tested
 pub none_of_match : {X : Type 0} (P : Type 0) (Q : X → Type 0) (o : Option X) → is_some o ≡ false → MatchOption o P Q → P

@@ -86,7 +86,6 @@ impl Call for NextCall {
                 minus,
             };
         }
-        let number = state.core().asked() + 1;
         let pair = state.core().class(place);
         let desk = self.desk;
         record(
@@ -98,6 +97,7 @@ impl Call for NextCall {
                 minus,
             },
         );
+        let number = state.core().asked();
         NextReply::Question {
             at,
             number,

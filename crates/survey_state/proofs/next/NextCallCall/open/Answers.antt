@@ -4,7 +4,7 @@ use Rattle.survey_core.specs.declared.events.Event.{Event}
 use Rattle.survey_core.specs.Histories.{class_at, issued, open_questions}
 use Rattle.survey_core.specs.Legal.{AreEarlierAsked}
 use Rattle.survey_state.specs.States.{IsFirstDue}
-use Rattle.survey_state.proofs.ReplyLemmas.{full, waiting, question, due_sought, unranked_sought, few_issued, none_of_match, some_of_match}
+use Rattle.survey_state.proofs.ReplyLemmas.{full, waiting, question, due_sought, unranked_sought, one_issued, none_of_match, some_of_match}
 use Rattle.survey_state.proofs.next.NextCallCall.open.Goals as goal
 
 pub returns-then-open_questions-ge-MAX_OPEN_QUESTIONS-clause-replied : goal.returns-then-open_questions-ge-MAX_OPEN_QUESTIONS-clause-replied
@@ -25,12 +25,6 @@ returns-then-is_none-clause-replied c =
     c.args.place c.args.plus.now c.args.minus.now (omega (arith, count, c.if-open_questions-ge-MAX_OPEN_QUESTIONS.false)) c.requires.opens earlier
     (unranked_sought c.args.state.now.listed c.args.state.now.journal c.args.place c.requires.sought earlier)
 
-pub overflow_add-number : goal.overflow_add-number
-overflow_add-number c =
-    let count : c.asked-number.result ≡ length (issued c.args.state.now.journal) =
-    c.asked-number.ensures ∙ ap (λ (h : List Event). length (issued h)) c.core-2.ensures.history in
-    omega (arith, count, few_issued c.args.state.now.journal, c.length-at.ensures.short)
-
 pub returns-clause-replied : goal.returns-clause-replied
 returns-clause-replied c =
     let listed : Listed = c.args.state.now.listed in
@@ -40,9 +34,10 @@ returns-clause-replied c =
     let due : (other : ℕ) × IsFirstDue listed journal other =
     some_of_match (AreEarlierAsked journal (length listed.classes + 1)) (IsFirstDue listed journal) c.first_due.result c.if-is_none.ensures c.first_due.ensures in
     question listed journal c.length-at.ensures.legal c.args.self.now.desk c.length-at.result c.length-at.ensures.value
-    c.record.new.state.journal (c.asked-number.result + 1) c.args.place c.class-pair.result c.args.plus.now c.args.minus.now
+    c.record.new.state.journal c.asked-number.result c.args.place c.class-pair.result c.args.plus.now c.args.minus.now
     (omega (arith, count, c.if-open_questions-ge-MAX_OPEN_QUESTIONS.false)) c.requires.opens
     (due_sought listed journal c.args.place due.0 c.requires.sought due.1)
-    (ap (λ n. n + 1) (c.asked-number.ensures ∙ ap (λ (h : List Event). length (issued h)) c.core-2.ensures.history))
-    (subst (λ (l : Listed). class_at l.classes c.args.place ≡ Some c.class-pair.result) c.core-3.ensures.listed c.class-pair.ensures.value)
+    (c.asked-number.ensures ∙ ap (λ (h : List Event). length (issued h)) (c.core-3.ensures.history ∙ c.record.ensures.journal)
+    ∙ one_issued journal c.args.self.now.desk c.args.place c.args.plus.now c.args.minus.now)
+    (subst (λ (l : Listed). class_at l.classes c.args.place ≡ Some c.class-pair.result) c.core-2.ensures.listed c.class-pair.ensures.value)
     c.record.ensures.journal
