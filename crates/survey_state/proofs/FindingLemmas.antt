@@ -35,9 +35,9 @@ use Rattle.survey_state.specs.declared.findings.Look.{Look}
 use Rattle.survey_state.specs.declared.findings.Finding.{Finding}
 use Rattle.survey_state.specs.declared.findings.Finding.TheVariants.{Open, Ranked}
 use Rattle.survey_state.specs.declared.findings.Found.{Found}
-use Rattle.survey_state.specs.States.{changes_answers, version_of, IsKept}
+use Rattle.survey_state.specs.States.{changes_answers, version_of, IsKept, HasAnswersOf}
 use Rattle.survey_state.specs.Sought.{IsSought}
-use Rattle.survey_state.specs.Findings.{OpensByFirst, IsCertified, IsFinding, IsReadyFor, HasAnswersOf, IsLook, LooksAt, IsFindingOf, IsFoundIn, IsFresh, IsCertifiedClass, MeetsWithClass, KeepsTools}
+use Rattle.survey_state.specs.Findings.{OpensByFirst, IsCertified, IsFinding, IsReadyFor, IsLook, LooksAt, IsFindingOf, IsFoundIn, IsFresh, IsCertifiedClass, MeetsWithClass, KeepsTools}
 use Rattle.survey_state.proofs.RoomLemmas.{legal_front}
 
 -- ---- the answers, after events that change none

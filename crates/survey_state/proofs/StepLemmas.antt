@@ -22,8 +22,8 @@ use Rattle.survey_replies.proofs.TurnLemmas.{call_is_made_lem, elimination_prepa
 use Rattle.survey_state.specs.declared.findings.Found.{Found}
 use Rattle.survey_state.specs.declared.calls.Step.{Step}
 use Rattle.survey_state.specs.declared.calls.Step.TheVariants as step
-use Rattle.survey_state.specs.States.{Surveyed}
-use Rattle.survey_state.specs.Findings.{IsLook, LooksAt, HasAnswersOf, IsEarlier}
+use Rattle.survey_state.specs.States.{Surveyed, HasAnswersOf}
+use Rattle.survey_state.specs.Findings.{IsLook, LooksAt, IsEarlier}
 use Rattle.survey_state.specs.Sought.{IsSought}
 use Rattle.survey_state.specs.Turns.{AppendsEliminate, IsBefore, IsStep, SeeksOn, Grows, Advances, IsTurn}
 use Rattle.survey_state.proofs.FindingLemmas.{copy_eliminated}

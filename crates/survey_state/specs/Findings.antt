@@ -27,7 +27,7 @@ use Rattle.survey_state.specs.declared.findings.Look.{Look}
 use Rattle.survey_state.specs.declared.findings.Finding.{Finding}
 use Rattle.survey_state.specs.declared.findings.Finding.TheVariants.{Open, Ranked}
 use Rattle.survey_state.specs.declared.findings.Found.{Found}
-use Rattle.survey_state.specs.States.{version_of}
+use Rattle.survey_state.specs.States.{HasAnswersOf}
 use Rattle.survey_state.specs.Sought.{IsSought}
 
 -- vectors that open a pair by the first answers, as many as is said
@@ -54,12 +54,6 @@ pub record IsReadyFor (look : Look) (tools : Tools) : Type 0 where
   pub ready : AreReady look.model tools
   pub fits : IsFit look.model.levels look.pair
   pub kept : IfSome look.kept (OpensByFirst look.model.levels tools.snapshot.answers.answers look.pair)
-
--- a snapshot that has the journal's answers, a point that meets them, and the version
-pub record HasAnswersOf (listed : Listed) (journal : List Event) (snapshot : Snapshot) : Type 0 where
-  pub answers : snapshot.answers.answers ≡ committed listed.classes journal
-  pub meets : MeetsAll listed.criteria.levels snapshot.answers.answers snapshot.point
-  pub version : snapshot.version ≡ version_of journal
 
 -- a class to look at, with what the state has for it
 pub record IsLook (listed : Listed) (journal : List Event) (look : Look) : Type 0 where

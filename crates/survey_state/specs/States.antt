@@ -68,12 +68,16 @@ abbrev pub IsOffered : Surveyed → Surveyed → Event → Offer → Type 0
 IsOffered old new event Done = IsAppended old new event
 IsOffered old new event (Stale broken) = FailsFirst old.listed old.journal event broken × (new ≡ old)
 
--- a snapshot of the journal: its answers, the point of the last, which meets them, and the version
-pub record IsSnapshotOf (listed : Listed) (journal : List Event) (snapshot : Snapshot) : Type 0 where
+-- a snapshot that has the journal's answers, a point that meets them, and the version
+pub record HasAnswersOf (listed : Listed) (journal : List Event) (snapshot : Snapshot) : Type 0 where
   pub answers : snapshot.answers.answers ≡ committed listed.classes journal
-  pub point : snapshot.point ≡ last_point listed.criteria.levels journal
   pub meets : MeetsAll listed.criteria.levels snapshot.answers.answers snapshot.point
   pub version : snapshot.version ≡ version_of journal
+
+-- a snapshot of the journal, which has its answers: the point is that of the last answer
+pub record IsSnapshotOf (listed : Listed) (journal : List Event) (snapshot : Snapshot) : Type 0 where
+  pub has : HasAnswersOf listed journal snapshot
+  pub point : snapshot.point ≡ last_point listed.criteria.levels journal
 
 -- the first class that no event ranks
 pub record IsFirstUnranked (listed : Listed) (journal : List Event) (place : ℕ) : Type 0 where

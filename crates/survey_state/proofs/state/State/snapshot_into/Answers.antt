@@ -20,10 +20,12 @@ returns-then-missing-eq0-clause-whole c zero =
     copied ∙ c.answers-answers.ensures.value ∙ ap (λ (h : List Event). committed c.self.inside.core.listed.classes h) c.self.invariant.history
     ∙ ap (λ (s : Surveyed). committed s.listed.classes s.journal) c.self.view_is in
     record {
-      answers = answers;
+      has = record {
+        answers = answers;
+        meets =
+            subst (λ (l : List Answer). MeetsAll c.args.self.now.listed.criteria.levels l c.point-snapshot.result) (sym answers)
+            c.point-snapshot.ensures.meets;
+        version = c.self.invariant.changes ∙ ap (λ (s : Surveyed). version_of s.journal) c.self.view_is;
+      };
       point = c.point-snapshot.ensures.value;
-      meets =
-          subst (λ (l : List Answer). MeetsAll c.args.self.now.listed.criteria.levels l c.point-snapshot.result) (sym answers)
-          c.point-snapshot.ensures.meets;
-      version = c.self.invariant.changes ∙ ap (λ (s : Surveyed). version_of s.journal) c.self.view_is;
     }
