@@ -15,7 +15,7 @@ mod shapes;
 mod tasks;
 mod timings;
 
-use crate::orders::Order;
+use crate::orders::{Order, Task};
 use crate::tasks::perform;
 use criteria_model::Model;
 use std::process::ExitCode;
@@ -32,5 +32,9 @@ fn main(rt: HostRuntime) -> io::Result<ExitCode> {
     };
     let mut desk = Solo::new(rt.alloc(), &model)?;
     perform(&rt, &order, &model, &mut desk)?;
+    if let Task::Time = order.task {
+        let rows = desk.tools().work.added();
+        println!(rt; "the solver took {rows} rows")?;
+    }
     Ok(ExitCode::from(0))
 }

@@ -12,6 +12,7 @@ use crate::timings::Times;
 use criteria_model::Model;
 use edges::StdSink;
 use std::io;
+use std::time::{CpuClock, Duration};
 use survey_replies::Respondent;
 
 /// Does what is asked for, at a desk of a survey that has not begun.
@@ -37,12 +38,17 @@ pub fn perform<R: Respondent>(
         write_model(rt, model)?;
     }
     ask_at_random(rt, desk, model, &mut draws, count, &mut output)?;
+    let start = rt.thread_cpu_time()?;
     let calls = answer_all(rt, rt.alloc(), desk, model, &hidden, &mut output)?;
     exchange(rt, desk, model, Request::Values, &mut output)?;
+    let whole = rt.thread_cpu_time()?.saturating_sub(start);
     match order.task {
         Task::Replies | Task::Mixed { .. } => Ok(()),
         Task::Journal { .. } => output.put_journal(desk, model),
-        Task::Time => write_times(rt, model, &Counts::of(desk), &Times::of(calls.as_slice())),
+        Task::Time => {
+            let counts = Counts::of(desk);
+            write_times(rt, model, &counts, whole, &Times::of(calls.as_slice()))
+        }
     }
 }
 
@@ -59,7 +65,13 @@ fn write_model(rt: &impl Print, model: &Model) -> io::Result<()> {
 }
 
 /// Writes how a survey went and how long it took.
-fn write_times(rt: &impl Print, model: &Model, counts: &Counts, times: &Times) -> io::Result<()> {
+fn write_times(
+    rt: &impl Print,
+    model: &Model,
+    counts: &Counts,
+    whole: Duration,
+    times: &Times,
+) -> io::Result<()> {
     let Counts {
         asked,
         by_one,
@@ -72,5 +84,8 @@ fn write_times(rt: &impl Print, model: &Model, counts: &Counts, times: &Times) -
     println!(rt;
         "classes {classes} questions {asked} eliminated by one answer {by_one} by more {by_more}"
     )?;
-    println!(rt; "questions took {total} microseconds, a class {early} ns early and {late} ns late")
+    let whole = whole.as_micros();
+    println!(rt;
+        "the survey took {whole} microseconds, its questions {total}, a class {early} ns early and {late} ns late"
+    )
 }

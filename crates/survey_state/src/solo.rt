@@ -1,6 +1,7 @@
 //! A survey of one desk.
 ghost use Rattle.std.specs.Prelude.{◌≡◌, ℕ, List, [], length, Option, IfOk, IfSome};
 ghost use Rattle.std.specs.List.{range_with_len};
+ghost use Rattle.decider.specs.Reserved.{IsReserved};
 ghost use Rattle.pair_enumeration.specs.Listed.{Listed, IsListed};
 ghost use Rattle.survey_core.specs.Legal.{IsLegal};
 ghost use Rattle.survey_replies.specs.Calls.{Seen};
@@ -108,6 +109,13 @@ impl Solo {
         ensures history { result.now.history ≡ self.now.history }
     {
         self.state().core()
+    }
+
+    /// The tools by which it decides. Their dictionary counts the rows that solves took.
+    pub fn tools(&self) -> &Tools
+        ensures { IsReserved self.now.listed.criteria result.now }
+    {
+        &self.tools
     }
 
     fn state(&self) -> &State
