@@ -1,8 +1,8 @@
 -- Why the replies that a state gives are right.
-use Rattle.std.proofs.Common.{length-append, ◌≡◌, ◌⊎◌, ◌↔◌, ℕ, suc, ◌+◌, ◌<◌, ◌≤◌, ◌==◌, Bool, true, false, cond, ◌||◌, IsTrue, IsFalse, List, [], ◌∷◌, ◌++◌, length, Option, Some, None, IsSomeAnd, Contains, ℤ, refl, ap, sym, subst, ◌∙◌, inl, inr, arith, append-nil, append_assoc}
+use Rattle.std.proofs.Common.{length-append, ◌≡◌, ◌⊎◌, ◌↔◌, ℕ, ◌+◌, ◌<◌, ◌≤◌, ◌==◌, Bool, true, false, cond, ◌||◌, IsTrue, IsFalse, List, [], ◌∷◌, ◌++◌, length, Option, Some, None, IsSomeAnd, Contains, ℤ, refl, ap, sym, subst, ◌∙◌, inl, inr, arith, append-nil, append_assoc}
 use Rattle.std.specs.Option.{option_and_then}
 use Rattle.std.specs.Prelude.{is_some, MatchOption}
-use Rattle.std.specs.List.{list_any, filter_map, cons_option}
+use Rattle.std.specs.List.{list_any}
 use Rattle.std.proofs.lemmas.Bool.{eq-eqb}
 use Rattle.std.proofs.lemmas.List.Folds.{list_any-append}
 use Rattle.criteria_model.specs.declared.pairs.Pair.{Pair}
@@ -21,7 +21,7 @@ use Rattle.row_laws.proofs.ItemLemmas.{item_within, item_positive}
 use Rattle.survey_core.specs.declared.events.Event.{Event}
 use Rattle.survey_core.specs.declared.events.Event.TheVariants.{Eliminate, Issue, Commit, Close, Withdraw}
 use Rattle.survey_core.specs.declared.limits.TheConstants.{MAX_OPEN_QUESTIONS}
-use Rattle.survey_core.specs.Kinds.{eliminates, issued_place}
+use Rattle.survey_core.specs.Kinds.{eliminates}
 use Rattle.survey_core.specs.Histories.{item_at, standing, issued, is_issued, class_at, class_of, place_of, committed, open_questions, is_eliminated, is_committed, is_ranked, IsOpenQuestion, withdrawals}
 use Rattle.survey_core.specs.Legal.{IsEvent, IsPlace, IsUnranked, IsSpent, MayFollow, IsLegal, AreEarlierAsked, OpensClass}
 use Rattle.survey_core.specs.Laws.{HasRanking, RanksEachClass}
