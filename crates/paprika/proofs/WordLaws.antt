@@ -4,7 +4,7 @@ use Rattle.std.specs.Prelude.{String}
 use Rattle.std.specs.String.{string_bytes}
 use Rattle.std.specs.declared.alloc.Global.{Global}
 use Rattle.std.specs.Bool.{Decides}
-use Rattle.paprika.specs.Command.{AreWord, IsCheck, IsMigrate}
+use Rattle.paprika.specs.Command.{AreWord}
 
 pub one_word : (text : List ℕ) (words : List (String Global)) (word : String Global) (same : Bool) → 1 ≤ length words → length words < 2 → word ≡ get_or words 0 word
     → Decides same (string_bytes word ≡ text) → (IsTrue same → AreWord text words) × (AreWord text words → IsTrue same)
@@ -13,9 +13,3 @@ one_word text (w ∷ x ∷ words) word same low high is d = absurd (omega arith)
 one_word text (w ∷ []) word same low high is d =
     let e : string_bytes w ≡ string_bytes word = ap string_bytes (sym is) in
     (λ yes. ap (λ (b : List ℕ). b ∷ []) (e ∙ d.0 yes), λ is_check. let f : string_bytes w ≡ text = cc in d.1 (sym e ∙ f))
-
-not_both : (words : List (List ℕ)) → words ≡ codes "check" ∷ [] → words ≡ codes "migrate" ∷ [] → ⊥
-not_both words check migrate = let byte = ap (λ (ws : List (List ℕ)). length (get_or ws 0 [])) (sym check ∙ migrate) in omega (arith, byte)
-
-pub one_command : (words : List (String Global)) → IsCheck words → IsMigrate words → ⊥
-one_command words check migrate = not_both _ check migrate
