@@ -24,17 +24,25 @@ expect 1 'invalid 4 class' examples/turned_class.txt check
 expect 1 'invalid 2 model' examples/too_many_increments.txt check
 expect 1 'unfinished 5' examples/unfinished.txt check
 expect 1 'unfinished 1' /dev/null check
+first_format=$(mktemp) || exit 1
+trap 'rm -f "$first_format"' EXIT
+sed '1s/2$/1/' examples/result.txt >"$first_format"
+expect 0 "$(cat examples/result.txt)" "$first_format" migrate
+expect 0 "$(cat examples/withdrawn.txt)" examples/withdrawn.txt migrate
+expect 1 'invalid 1 form' examples/claims.txt migrate
 expect 2 "$usage" examples/claims.txt
-expect 2 "$usage" examples/claims.txt check check
+expect 2 "$usage" examples/claims.txt check migrate
 expect 2 "$usage" examples/claims.txt Check
 expect 2 "$usage" examples/claims.txt --help
 expect 2 "$usage" examples/claims.txt "$(printf '\377')"
 expect 2 "$usage" examples/claims.txt check "$(printf '\377')"
-expect 3 '' examples check # a folder can't be read
-if [ -w /dev/full ]; then
-    ./paprika check <examples/claims.txt >/dev/full
-    status=$?
-    if [ $status != 4 ]; then echo "paprika check > /dev/full: status $status, not 4" && failed=1; fi
-fi
+for word in check migrate; do
+    expect 3 '' examples $word # a folder can't be read
+    if [ -w /dev/full ]; then
+        ./paprika $word <examples/result.txt >/dev/full
+        status=$?
+        if [ $status != 4 ]; then echo "paprika $word > /dev/full: status $status, not 4" && failed=1; fi
+    fi
+done
 if [ $failed = 0 ]; then echo 'all as wanted'; fi
 exit $failed

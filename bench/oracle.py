@@ -1,7 +1,7 @@
 #!/usr/bin/env python3
-"""Says of a checked file what `paprika check` has to say, by plain lists and exact integers.
+"""Says of a checked file what `paprika check` or `paprika migrate` has to write, by plain lists and exact integers.
 
-usage: oracle.py <FILE
+usage: oracle.py [check | migrate] <FILE
 
 It shares no code with the program or with results.py. Whatever is asked of a history is worked out anew from the
 list of its standing events, so large files take minutes.
@@ -265,5 +265,21 @@ def verdict_of(data):
     return file.accepted() if number > 2 and rest == b"end" else f"unfinished {number}"
 
 
+def migrated(data):
+    heading, line_end, rest = data.partition(b"\n")
+    if line_end and heading == b"paprika claims 1":
+        return b"invalid 1 form\n"
+    verdict = verdict_of(data)
+    if not verdict.startswith("valid"):
+        return f"{verdict}\n".encode()
+    return b"paprika result 2\n" + rest.removesuffix(b"\n") + b"\n"
+
+
+def main():
+    data = sys.stdin.buffer.read()
+    migrates = sys.argv[1:] == ["migrate"]
+    sys.stdout.buffer.write(migrated(data) if migrates else f"{verdict_of(data)}\n".encode())
+
+
 if __name__ == "__main__":
-    print(verdict_of(sys.stdin.buffer.read()))
+    main()
