@@ -47,6 +47,8 @@ fn check_lines<S: Source>(alloc: Global, lines: Lines, source: &mut S) -> Checke
 }
 
 /// Goes on by one line, of that number, or gives the verdict on the file.
+// In the loops that call it, so that the progress isn't moved in and out for each line.
+#[inline(always)]
 pub(crate) fn next_progress<S: Source>(
     alloc: Global,
     lines: &mut Lines,
