@@ -1,8 +1,7 @@
 -- Exchanges with a respondent.
-use Rattle.std.proofs.Common.{◌≡◌, ℕ, ◌-◌, List, [], ◌++◌, length, Option, refl, ap, sym, subst, ◌∙◌, arith, append-nil}
+use Rattle.std.proofs.Common.{◌≡◌, ℕ, ◌-◌, [], ◌++◌, length, Option, refl, ap, sym, subst, ◌∙◌, arith, append-nil}
 use Rattle.std.specs.List.{range_with_len}
 use Rattle.pair_enumeration.specs.Listed.{Listed}
-use Rattle.survey_core.specs.declared.events.Event.{Event}
 use Rattle.json_forms.specs.declared.messages.Message.{Message}
 use Rattle.survey_replies.specs.Requests.{Request}
 use Rattle.survey_replies.specs.Requests as request

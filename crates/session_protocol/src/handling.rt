@@ -56,3 +56,6 @@ fn reply_to<R: Respondent>(respondent: &mut R, message: Message) -> Result<Reply
         Message::Bye => Ok(Reply::Bye),
     }
 }
+
+#[cfg(test)]
+mod tests;
