@@ -1,6 +1,8 @@
 ghost use Rattle.std.specs.Prelude.{◌≤◌, length};
 
 use super::*;
+use criteria_model::Vector;
+use farkas_check::{Cite, Cites, Combination};
 use std::process::Abort;
 use std::test::Fail;
 
@@ -105,24 +107,23 @@ fn withdrawn(answer: u32, question: u32) -> (Ask, Said) {
     (Ask::Withdraw, Said::Withdrawn { answer, question })
 }
 
-/// The replies of a survey of a model to a talk, where one isn't as said: its number and what was said instead.
-fn first_other(
-    alloc: Global,
-    levels: &[u32],
-    degree: u32,
-    talk: &[(Ask, Said)],
-) -> Result<Option<(usize, Said)>, Fail>
-    requires { length levels.now ≤ 24 }
-{
-    let model = Model::new(levels, degree).ok().ok_or("model")?;
-    let mut solo = Solo::new(alloc, &model)?;
+/// The survey's replies to a talk, where one isn't as said: its number and what was said instead.
+fn first_other(solo: &mut Solo, talk: &[(Ask, Said)]) -> Result<Option<(usize, Said)>, Fail> {
     for (number, (ask, said)) in talk.iter().enumerate() {
-        let reply = say(&mut solo, *ask)?;
+        let reply = say(solo, *ask)?;
         if reply != *said {
             return Ok(Some((number, reply)));
         }
     }
     Ok(None)
+}
+
+/// A survey with nothing asked.
+fn survey(alloc: Global, levels: &[u32], degree: u32) -> Result<Solo, Fail>
+    requires { length levels.now ≤ 24 }
+{
+    let model = Model::new(levels, degree).ok().ok_or("model")?;
+    Ok(Solo::new(alloc, &model)?)
 }
 
 const LEFT: Side = Side::Left;
@@ -199,11 +200,66 @@ fn worked_surveys(rt: HostRuntime) -> Result<(), Fail> {
         ("implied by increment", &[3, 2], 2, &implied_by_increment),
     ];
     for (name, levels, degree, talk) in rows {
-        assert!(rt;
-            first_other(rt.alloc(), levels, degree, talk)?.is_none(),
-            "{name}"
-        );
+        let mut solo = survey(rt.alloc(), levels, degree)?;
+        assert!(rt; first_other(&mut solo, talk)?.is_none(), "{name}");
     }
+    Ok(())
+}
+
+/// The combination by which two answers imply a third is the only one in lowest terms.
+#[test]
+fn combination_of_implied_answer(rt: HostRuntime) -> Result<(), Fail> {
+    let talk = [
+        asks(1, 1),
+        asks(2, 2),
+        asks(3, 3),
+        given(1, LEFT),
+        given(3, LEFT),
+    ];
+    let mut solo = survey(rt.alloc(), &[2, 2, 2], 3)?;
+    assert!(rt; first_other(&mut solo, &talk)?.is_none());
+    let cites = [
+        Cite {
+            answer: 1,
+            weight: 1,
+        },
+        Cite {
+            answer: 2,
+            weight: 1,
+        },
+    ];
+    let combination = Combination {
+        scale: 1,
+        increments: Vector::of(&[0, 0, 0]),
+        answers: Cites::of(&cites).ok_or("cites")?,
+    };
+    let implied = AnswerReply::Implied {
+        at: 5,
+        question: 2,
+        verdict: LEFT,
+        combination,
+    };
+    assert!(rt; solo.answer(2, LEFT) == implied);
+    Ok(())
+}
+
+/// Two equal answers rank each class; all ones are their values.
+#[test]
+fn all_equal_values(rt: HostRuntime) -> Result<(), Fail> {
+    let talk = [
+        asks(1, 1),
+        given(1, EQUAL),
+        asks(2, 2),
+        given(2, EQUAL),
+        COMPLETE,
+    ];
+    let mut solo = survey(rt.alloc(), &[2, 2, 2], 3)?;
+    assert!(rt; first_other(&mut solo, &talk)?.is_none());
+    let values = ValuesReply::Values {
+        at: 8,
+        vector: Vector::of(&[1, 1, 1]),
+    };
+    assert!(rt; solo.values() == values);
     Ok(())
 }
 
@@ -221,8 +277,7 @@ fn withdrawals_until_spent(solo: &mut Solo) -> Result<Option<u32>, Fail> {
 /// An answer may be taken back as often as the limit of events allows, and no more.
 #[test]
 fn withdrawals_to_the_bound(rt: HostRuntime) -> Result<(), Fail> {
-    let model = Model::new(&[2, 2, 2], 3).ok().ok_or("model")?;
-    let mut solo = Solo::new(rt.alloc(), &model)?;
+    let mut solo = survey(rt.alloc(), &[2, 2, 2], 3)?;
     let _asked = say(&mut solo, Ask::Next)?;
     assert_eq!(rt; withdrawals_until_spent(&mut solo)?, Some(10_081));
     Ok(())

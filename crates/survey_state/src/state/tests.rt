@@ -95,6 +95,29 @@ fn offer(rt: &impl Abort, state: &mut State, event: Event) -> Result<Offer, Fail
     Ok(state.offer(event))
 }
 
+/// What is at hand of a state.
+#[derive(Clone, Copy, PartialEq)]
+struct AtHand {
+    length: u32,
+    version: u32,
+    point: Vector,
+}
+
+fn at_hand(state: &State) -> AtHand {
+    AtHand {
+        length: state.length(),
+        version: state.version(),
+        point: state.point(),
+    }
+}
+
+/// Whether the snapshot, brought to the state's answers, has as many of them, and the version.
+fn is_copied(state: &State, snapshot: &mut Snapshot) -> bool {
+    state.snapshot_into(snapshot) == 0
+        && snapshot.version == state.version()
+        && snapshot.answers.len() == state.core().answers().len()
+}
+
 /// An answer is given and taken back: point, version and snapshot follow, and an event that may not follow changes nothing.
 #[test]
 fn answer_and_withdrawal(rt: HostRuntime) -> Result<(), Fail> {
@@ -136,15 +159,28 @@ fn answer_and_withdrawal(rt: HostRuntime) -> Result<(), Fail> {
     ];
     for (event, offered, length, version, point) in rows {
         assert_eq!(rt; offer(&rt, &mut state, event)?, offered);
-        assert_eq!(rt; state.length(), length);
-        assert_eq!(rt; state.version(), version);
-        assert!(rt; state.point() == vector(point));
-        assert_eq!(rt; state.snapshot_into(&mut tools.snapshot), 0);
-        assert_eq!(rt; tools.snapshot.version, version);
-        assert!(rt; tools.snapshot.answers.len() == state.core().answers().len());
+        let point = vector(point);
+        assert!(rt;
+            at_hand(&state)
+                == AtHand {
+                    length,
+                    version,
+                    point
+                }
+        );
+        assert!(rt; is_copied(&state, &mut tools.snapshot));
     }
     assert!(rt; event_at(&mut state, 3) == Some(withdraw(1)));
     assert!(rt; event_at(&mut state, 5).is_none());
+    Ok(())
+}
+
+/// With ample memory there is room for a withdrawal.
+#[test]
+fn withdraw_with_memory(rt: HostRuntime) -> Result<(), Fail> {
+    let model = Model::new(&[2, 2, 2], 3).ok().ok_or("model")?;
+    let mut state = State::new(rt.alloc(), &model)?;
+    assert!(rt; state.make_room().is_ok());
     Ok(())
 }
 
