@@ -309,7 +309,9 @@ fn other_words_are_usage(rt: HostRuntime) -> Result<(), Fail> {
     for count in [0, 2] {
         expect_usage(&rt, rt.alloc(), &words[..count])?;
     }
-    for word in ["", "Check", "check ", "--help", "rank"] {
+    for word in [
+        "", "Check", "check ", "Migrate", "migrate ", "--help", "rank",
+    ] {
         let words = [format!(in rt.alloc(); "{word}")?];
         expect_usage(&rt, rt.alloc(), &words)?;
     }

@@ -1,5 +1,6 @@
 //! Results: each table changes lines of a base file, one at a time.
 mod forms;
+mod migrated;
 
 use super::expect_check;
 use forms::FORMS;
