@@ -26,8 +26,8 @@ pub struct Witness {
     pub met: u32,
 }
 
-/// Vectors that are known to meet the first answers of a list, which is kept beside them. Later answers are
-/// tested where a vector would serve, and it is dropped where it fails.
+/// Vectors that are known to meet the first answers of a list, which is kept beside them. A vector that fails a
+/// later answer is dropped: all are tested where the list grew, else the one that would serve.
 #[derive(Drop)]
 pub struct Witnesses {
     model: Model,
