@@ -36,7 +36,7 @@ use Rattle.result_file.proofs.LineEndLaws.{HasNoLineEnd-heading, HasNoLineEnd-en
 use Rattle.result_file.proofs.OneVerdict.{lines_unbroken}
 use Rattle.result_file.proofs.OutLemmas.{unlines-append}
 use Rattle.result_file.proofs.SpelledLaws.{heading_once}
-use Rattle.result_file.proofs.VerdictLaws.{for_told, told_now, line_checked}
+use Rattle.result_file.proofs.VerdictLaws.{for_told, told_now, line_checked, end_with_piece, end_without_piece}
 
 -- ---- the first line
 
@@ -64,26 +64,31 @@ fails_blank line other (headed kind) stands = absurd stands
 fails_blank line other (begun content) stands = absurd stands
 fails_blank line other (ended content) stands = absurd stands
 
-pub other_refused : (before now : Option (List ℕ)) (new : LinesView) → GivesLine new before now → length new.line ≤ 4096
-    → ((kind : Kind) → new.line ≢ heading kind) → IfSome before (λ text. IsRefused text (Invalid 1 Form))
-other_refused before now new g short other =
-    first_refused before (line_checked before before now 1 reached.Blank new Form (blank_come before) g short (fails_blank new.line other))
+-- the first line of a text that isn't a claims file's is no heading
+no_heading : (bytes rest line : List ℕ) → bytes ≡ (line ++ line_end ∷ []) ++ rest → ¬ BeginsClaims bytes
+    → ((format : Format) → line ≢ heading (kinds.Result format)) → (kind : Kind) → line ≢ heading kind
+no_heading bytes rest line whole no_claims other kinds.Claims is =
+    no_claims (rest, whole ∙ append_assoc line (line_end ∷ []) rest ∙ ap (λ (front : List ℕ). front ++ line_end ∷ rest) is)
+no_heading bytes rest line whole no_claims other (kinds.Result format) is = other format is
 
-pub claims_refused : (before now : Option (List ℕ)) (new : LinesView) → GivesLine new before now → new.line ≡ heading kinds.Claims
-    → IfSome before (λ text. IsRefused text (Invalid 1 Form))
-claims_refused before now new g is =
+pub other_refused : (before now : Option (List ℕ)) (new : LinesView) → GivesLine new before now → length new.line ≤ 4096
+    → ((format : Format) → new.line ≢ heading (kinds.Result format)) → IfSome before (λ text. IsRefused text (Invalid 1 Form))
+other_refused before now new g short other =
     for_told before (λ text. IsRefused text (Invalid 1 Form)) (λ bytes told.
-    let t = told_now before now (new.line ++ line_end ∷ []) bytes g.told told in
-    let begins : bytes ≡ heading kinds.Claims ++ line_end ∷ t.0 =
-    t.2 ∙ append_assoc new.line (line_end ∷ []) t.0 ∙ ap (λ (line : List ℕ). line ++ line_end ∷ t.0) is in
-    (λ claims. refl, λ no_claims. absurd (no_claims (t.0, begins))))
+    let t = told_now before now (new.line ++ line_end ∷ []) bytes g.told told in (
+      λ claims. refl,
+      λ no_claims.
+          subst (λ (text : Option (List ℕ)). IsToldChecked text (Invalid 1 Form)) told
+          (line_checked before before now 1 reached.Blank new Form (blank_come before) g short
+          (fails_blank new.line (no_heading bytes t.0 new.line t.2 no_claims other))),
+    ))
 
 no_line_end : (piece : List ℕ) → HasNoLineEnd piece → ¬ BeginsClaims piece
 no_line_end piece unbroken claims =
     let whole : HasNoLineEnd (heading kinds.Claims ++ line_end ∷ claims.0) = subst HasNoLineEnd claims.1 unbroken in
     whole 16 0 (omega arith) refl
 
-pub open_blank : (piece : List ℕ) (stage : Stage) → IsAtStage reached.Blank stage → EndsAs stage piece 1 (Unfinished 1)
+open_blank : (piece : List ℕ) (stage : Stage) → IsAtStage reached.Blank stage → EndsAs stage piece 1 (Unfinished 1)
 open_blank piece blank stands = (tt, refl)
 open_blank piece (headed kind) stands = absurd stands
 open_blank piece (begun content) stands = absurd stands
@@ -98,14 +103,16 @@ cut_refused before now piece told at_end unbroken checked =
     let same : bytes ≡ piece = t.2 ∙ ap (λ (rest : List ℕ). piece ++ rest) none ∙ append-nil piece in
     (no_line_end bytes (subst HasNoLineEnd (sym same) unbroken), subst (λ (text : Option (List ℕ)). IsToldChecked text (Unfinished 1)) is checked))
 
-pub piece_refused : (before now : Option (List ℕ)) (new : LinesView) → GivesPiece new before now → IsToldChecked before (Unfinished 1)
+pub piece_refused : (before now : Option (List ℕ)) (new : LinesView) → new.longest ≡ 4096 → GivesPiece new before now
     → IfSome before (λ text. IsRefused text (Unfinished 1))
-piece_refused before now new g checked = cut_refused before now new.line g.told g.ended g.unbroken checked
+piece_refused before now new longest g =
+    cut_refused before now new.line g.told g.ended g.unbroken
+    (end_with_piece before before now 1 reached.Blank new (Unfinished 1) (blank_come before) g longest (open_blank new.line))
 
-pub end_refused : (before now : Option (List ℕ)) (new : LinesView) → GivesEnd new before now → IsToldChecked before (Unfinished 1)
-    → IfSome before (λ text. IsRefused text (Unfinished 1))
-end_refused before now new g checked =
-    cut_refused before now [] (sym g.same ∙ sym (prepend_known-nil now)) g.ended (All-nil _) checked
+pub end_refused : (before now : Option (List ℕ)) (new : LinesView) → GivesEnd new before now → IfSome before (λ text. IsRefused text (Unfinished 1))
+end_refused before now new g =
+    cut_refused before now [] (sym g.same ∙ sym (prepend_known-nil now)) g.ended (All-nil _)
+    (end_without_piece before before now 1 reached.Blank new (Unfinished 1) (blank_come before) g (open_blank new.line))
 
 -- ---- the lines after it
 

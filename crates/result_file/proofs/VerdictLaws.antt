@@ -150,10 +150,10 @@ piece_checked text before now number progress piece verdict h told at_end one sh
     ends_checked verdict bytes piece h.lines h.stage number (t.2 ∙ ap (λ (p : List ℕ). unlines h.lines ++ p) rest) h.unbroken one short h.says h.number (ends h.stage h.stands))
 
 pub end_with_piece : (text before now : Option (List ℕ)) (number : ℕ) (progress : Progress) (new : LinesView) (verdict : Checked)
-    → HasCome text before number progress → GivesPiece new before now → length new.line ≤ 4096
+    → HasCome text before number progress → GivesPiece new before now → new.longest ≡ 4096
     → ((stage : Stage) → IsAtStage progress stage → EndsAs stage new.line number verdict) → IsToldChecked text verdict
-end_with_piece text before now number progress new verdict h g short ends =
-    piece_checked text before now number progress new.line verdict h g.told g.ended g.unbroken short ends
+end_with_piece text before now number progress new verdict h g longest ends =
+    piece_checked text before now number progress new.line verdict h g.told g.ended g.unbroken (omega (arith, g.fits, longest)) ends
 
 pub end_without_piece : (text before now : Option (List ℕ)) (number : ℕ) (progress : Progress) (new : LinesView) (verdict : Checked)
     → HasCome text before number progress → GivesEnd new before now

@@ -38,8 +38,8 @@ fn check_lines<S: Source>(alloc: Global, lines: Lines, source: &mut S) -> Checke
     let mut progress = Progress::Blank;
     let mut number = 1;
     loop {
-        match next_progress(alloc, &mut lines, source, progress, number) {
-            Ok(next) => progress = next,
+        match next_progress(alloc, &mut lines, source, &mut progress, number) {
+            Ok(()) => {}
             Err(verdict) => return verdict,
         }
         number += 1;
@@ -47,20 +47,18 @@ fn check_lines<S: Source>(alloc: Global, lines: Lines, source: &mut S) -> Checke
 }
 
 /// Goes on by one line, of that number, or gives the verdict on the file.
-// In the loops that call it, so that the progress isn't moved in and out for each line.
-#[inline(always)]
 pub(crate) fn next_progress<S: Source>(
     alloc: Global,
     lines: &mut Lines,
     source: &mut S,
-    progress: Progress,
+    progress: &mut Progress,
     number: u32,
-) -> Result<Progress, Checked>
+) -> Result<(), Checked>
     requires { lines.old.longest ≡ MAX_LINE }
-    ensures next { IfOk result (λ next. (text : Option (List ℕ)) →
-        HasCome text (ahead lines.old (S.left source.old)) number progress → HasCome text (ahead lines.new (S.left source.new)) (number + 1) next) }
+    ensures next { OnOk result ((text : Option (List ℕ)) →
+        HasCome text (ahead lines.old (S.left source.old)) number progress.old → HasCome text (ahead lines.new (S.left source.new)) (number + 1) progress.new) }
     ensures verdict { IfErr result (λ verdict. (text : Option (List ℕ)) →
-        HasCome text (ahead lines.old (S.left source.old)) number progress → IsToldChecked text verdict) }
+        HasCome text (ahead lines.old (S.left source.old)) number progress.old → IsToldChecked text verdict) }
     ensures line { OnOk result (GivesLine lines.new (ahead lines.old (S.left source.old)) (ahead lines.new (S.left source.new))) }
     ensures piece { IfErr result (λ verdict. IsAccepted verdict → EndsWithPiece lines.new.line (ahead lines.old (S.left source.old)) (S.left source.new)) }
     ensures quiet { OnOk result (S.faults source.new ≡ S.faults source.old) }
@@ -70,12 +68,11 @@ pub(crate) fn next_progress<S: Source>(
 {
     match lines.next_line(source) {
         LineGot::Line => match progress.next(alloc, lines.line()) {
-            Ok(next) => Ok(next),
+            Ok(()) => Ok(()),
             Err(Stop::Wrong(part)) => Err(Checked::Invalid { line: number, part }),
             Err(Stop::NoMemory) => Err(Checked::NoMemory),
         },
-        LineGot::Piece => Err(progress.ends(lines.line(), number)),
-        LineGot::End => Err(progress.ends(lines.line(), number)),
+        LineGot::Piece | LineGot::End => Err(progress.ends(lines.line(), number)),
         LineGot::TooLong => Err(Checked::Invalid {
             line: number,
             part: Part::Form,

@@ -1,5 +1,7 @@
 ghost use Rattle.std.specs.Prelude.{◌≡◌, ◌≢◌, MatchOption};
+ghost use Rattle.result_file.specs.declared.entries.Format.{Format as FormatOfResult};
 ghost use Rattle.result_file.specs.declared.kinds.Kind.{Kind as FileKind};
+ghost use Rattle.result_file.specs.declared.kinds.Kind.TheVariants.{Result as ResultKind};
 ghost use Rattle.result_file.specs.Texts.{heading};
 
 use crate::entries::Format;
@@ -37,4 +39,17 @@ pub(crate) fn kind_of(line: &[u8]) -> Option<Kind>
         return Some(Kind::Result(Format::Two));
     }
     None
+}
+
+/// The format of the result that a first line begins.
+pub(crate) fn format_of(line: &[u8]) -> Option<Format>
+    ensures { MatchOption result
+        ((format : FormatOfResult) → line.now ≢ heading (ResultKind format))
+        (λ format. line.now ≡ heading (ResultKind format)) }
+{
+    match kind_of(line) {
+        Some(Kind::Result(format)) => Some(format),
+        Some(Kind::Claims) => None,
+        None => None,
+    }
 }

@@ -10,12 +10,18 @@ ghost use Rattle.result_file.specs.Texts.{heading};
 
 use crate::checking::next_progress;
 use crate::entries::Format;
-use crate::kinds::{FORMAT_TWO, Kind, kind_of};
+use crate::kinds::{FORMAT_TWO, Kind, format_of};
 use crate::limits::MAX_LINE;
 use crate::progress::Progress;
 use crate::verdicts::{Checked, Part};
 use edges::{LineGot, Lines, NoMemory, Source};
 use std::alloc::Global;
+
+/// What is said of a file whose first line isn't that of a result.
+const NO_RESULT: Checked = Checked::Invalid {
+    line: 1,
+    part: Part::Form,
+};
 
 /// Copies the result that `source` holds, of either format: the same lines, under the heading of the second format.
 ///
@@ -60,23 +66,12 @@ fn read_heading<S: Source>(lines: &mut Lines, source: &mut S) -> Result<Format, 
     ensures longest { lines.new.longest ≡ lines.old.longest }
 {
     match lines.next_line(source) {
-        LineGot::Line => match kind_of(lines.line()) {
-            Some(Kind::Result(format)) => Ok(format),
-            Some(Kind::Claims) => Err(Checked::Invalid {
-                line: 1,
-                part: Part::Form,
-            }),
-            None => Err(Checked::Invalid {
-                line: 1,
-                part: Part::Form,
-            }),
+        LineGot::Line => match format_of(lines.line()) {
+            Some(format) => Ok(format),
+            None => Err(NO_RESULT),
         },
-        LineGot::TooLong => Err(Checked::Invalid {
-            line: 1,
-            part: Part::Form,
-        }),
-        LineGot::Piece => Err(Checked::Unfinished { line: 1 }),
-        LineGot::End => Err(Checked::Unfinished { line: 1 }),
+        LineGot::TooLong => Err(NO_RESULT),
+        LineGot::Piece | LineGot::End => Err(Checked::Unfinished { line: 1 }),
         LineGot::ReadFault => Err(Checked::ReadFault),
     }
 }
@@ -102,8 +97,8 @@ fn copy_lines<S: Source>(
     let mut progress = Progress::Headed(Kind::Result(format));
     let mut number = 2;
     loop {
-        match next_progress(alloc, lines, source, progress, number) {
-            Ok(next) => progress = next,
+        match next_progress(alloc, lines, source, &mut progress, number) {
+            Ok(()) => {}
             Err(verdict) => return end_copy(copy, lines.line(), verdict),
         }
         match copy_line(&mut copy, lines.line()) {

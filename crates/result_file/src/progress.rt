@@ -1,5 +1,5 @@
 //! How far the lines of a file have come.
-ghost use Rattle.std.specs.Prelude.{◌≡◌, ◌≢◌, ◌↔◌, ℕ, ◌≤◌, List, length, IsTrue, IfOk, IfErr};
+ghost use Rattle.std.specs.Prelude.{◌≡◌, ◌≢◌, ◌↔◌, ℕ, ◌≤◌, List, length, IsTrue, OnOk, IfOk, IfErr};
 ghost use Rattle.result_file.specs.declared.kinds.Kind.{Kind as FileKind};
 ghost use Rattle.result_file.specs.Texts.{model_line, end_line};
 ghost use Rattle.result_file.specs.Checked.{Stage, headed, Says, Fails};
@@ -32,9 +32,30 @@ pub(crate) enum Progress {
 }
 
 impl Progress {
-    /// The progress after one more line, or what stops the check there.
-    pub(crate) fn next(self, alloc: Global, line: &[u8]) -> Result<Progress, Stop>
+    /// Goes on by one more line, or says what stops the check there.
+    pub(crate) fn next(&mut self, alloc: Global, line: &[u8]) -> Result<(), Stop>
         requires { length line.now ≤ MAX_LINE }
+        ensures next { OnOk result ((lines : List (List ℕ)) (stage : Stage) →
+            Says lines stage → IsAtStage self.old stage → GoesOn lines line.now self.new) }
+        ensures failed { IfErr result (λ stop. (stage : Stage) → IsAtStage self.old stage → StopsAt stage line.now stop) }
+    {
+        match self {
+            Progress::Begun(body) => {
+                if !is_end(line) {
+                    return body.add(line);
+                }
+            }
+            _ => {}
+        }
+        let progress = std::mem::replace(self, Progress::Blank);
+        *self = progress.turned(alloc, line)?;
+        Ok(())
+    }
+
+    /// The progress after the heading, the model line or the end line.
+    fn turned(self, alloc: Global, line: &[u8]) -> Result<Progress, Stop>
+        requires fits { length line.now ≤ MAX_LINE }
+        requires ends { (body : Body) → self ≡ Progress.Begun body → line.now ≡ end_line }
         ensures next { IfOk result (λ progress. (lines : List (List ℕ)) (stage : Stage) →
             Says lines stage → IsAtStage self stage → GoesOn lines line.now progress) }
         ensures failed { IfErr result (λ stop. (stage : Stage) → IsAtStage self stage → StopsAt stage line.now stop) }
@@ -48,7 +69,7 @@ impl Progress {
                 Ok(model) => Ok(Progress::Begun(Body::of(alloc, kind, model)?)),
                 Err(part) => Err(Stop::Wrong(part)),
             },
-            Progress::Begun(body) => next_in_body(body, line),
+            Progress::Begun(body) => Ok(Progress::Ended(body)),
             Progress::Ended(_) => Err(Stop::Wrong(Part::Form)),
         }
     }
@@ -79,20 +100,6 @@ impl Progress {
             Progress::Blank | Progress::Headed(_) => Checked::Unfinished { line: number },
         }
     }
-}
-
-/// The progress after one more line of a body.
-fn next_in_body(body: Body, line: &[u8]) -> Result<Progress, Stop>
-    ensures next { IfOk result (λ progress. (lines : List (List ℕ)) (stage : Stage) →
-        Says lines stage → IsAtStage (Progress.Begun body) stage → GoesOn lines line.now progress) }
-    ensures failed { IfErr result (λ stop. (stage : Stage) → IsAtStage (Progress.Begun body) stage → StopsAt stage line.now stop) }
-{
-    if is_end(line) {
-        return Ok(Progress::Ended(body));
-    }
-    let mut body = body;
-    body.add(line)?;
-    Ok(Progress::Begun(body))
 }
 
 /// Whether the line is the last of a file.

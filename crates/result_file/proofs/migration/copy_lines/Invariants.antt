@@ -9,13 +9,13 @@ use Rattle.result_file.specs.Texts.{heading}
 use Rattle.result_file.proofs.migration.copy_lines.Given as goal
 
 -- The lines so far are right, and copied.
-abbrev pub invariant-loop-next : goal.invariant-loop-next
-invariant-loop-next g l = record {
+abbrev pub invariant-loop-verdict : goal.invariant-loop-verdict
+invariant-loop-verdict g l = record {
   longest : l.lines.longest ≡ 4096;
   come : HasCome (prepend_known (heading (Result l.fn.format) ++ line_end ∷ []) (ahead l.fn.lines (g.S.Source.left l.fn.source))) (ahead l.lines (g.S.Source.left l.source)) l.number l.progress;
   copied : HasCopied (ahead l.fn.lines (g.S.Source.left l.fn.source)) (ahead l.lines (g.S.Source.left l.source)) l.copy.items;
   quiet : g.S.Source.faults l.source ≡ g.S.Source.faults l.fn.source;
 }
 
-abbrev pub decreases-loop-next : goal.decreases-loop-next
-decreases-loop-next g l = 200000 - l.number
+abbrev pub decreases-loop-verdict : goal.decreases-loop-verdict
+decreases-loop-verdict g l = 200000 - l.number

@@ -1,13 +1,8 @@
-use Rattle.std.proofs.Common.{arith, refl, ◌∙◌, sym}
-use Rattle.result_file.specs.declared.verdicts.Checked.TheVariants.{Unfinished}
-use Rattle.result_file.proofs.CopyLemmas.{blank_come, open_blank, other_refused, claims_refused, long_refused, piece_refused, end_refused}
-use Rattle.result_file.proofs.VerdictLaws.{end_with_piece, end_without_piece, long_checked}
+use Rattle.std.proofs.Common.{arith, refl, inl, inr, ◌∙◌}
 use Rattle.result_file.specs.declared.progress.Progress.TheVariants as reached
+use Rattle.result_file.proofs.CopyLemmas.{blank_come, other_refused, long_refused, piece_refused, end_refused}
+use Rattle.result_file.proofs.VerdictLaws.{long_checked}
 use Rattle.result_file.proofs.migration.read_heading.Goals as goal
-
-pub returns-in-Some-Claims-clause-refused : goal.returns-in-Some-Claims-clause-refused
-returns-in-Some-Claims-clause-refused g c =
-    claims_refused _ _ c.next_line.new.self c.in-Line.ensures.got (sym c.line.ensures ∙ rw c.in-Some-Claims.field-0-is at c.in-Some-Claims.ensures)
 
 pub returns-in-None-clause-refused : goal.returns-in-None-clause-refused
 returns-in-None-clause-refused g c =
@@ -20,10 +15,7 @@ returns-in-TooLong-clause-refused g c =
 
 pub returns-in-Piece-clause-refused : goal.returns-in-Piece-clause-refused
 returns-in-Piece-clause-refused g c =
-    piece_refused _ _ c.next_line.new.self c.in-Piece.ensures.got
-    (end_with_piece _ _ _ 1 reached.Blank c.next_line.new.self (Unfinished 1) (blank_come _) c.in-Piece.ensures.got (omega (arith, c.in-Piece.ensures.got.fits, c.in-Piece.ensures.limits.longest, c.requires)) (open_blank c.next_line.new.self.line))
-
-pub returns-in-End-clause-refused : goal.returns-in-End-clause-refused
-returns-in-End-clause-refused g c =
-    end_refused _ _ c.next_line.new.self c.in-End.ensures.got
-    (end_without_piece _ _ _ 1 reached.Blank c.next_line.new.self (Unfinished 1) (blank_come _) c.in-End.ensures.got (open_blank c.next_line.new.self.line))
+    elim c.in-Piece.is [
+      | inl piece ↦ piece_refused _ _ c.next_line.new.self (c.next_line.ensures.limits.longest ∙ c.requires) (rw piece at c.next_line.ensures.got)
+      | inr end ↦ end_refused _ _ c.next_line.new.self (rw end at c.next_line.ensures.got)
+    ]

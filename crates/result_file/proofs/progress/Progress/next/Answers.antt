@@ -1,14 +1,9 @@
-use Rattle.result_file.proofs.StageLaws.{heads, begins, stops_headed}
+use Rattle.std.proofs.lemmas.Result.{on_ok_weaker}
+use Rattle.result_file.proofs.StageLaws.{adds}
 use Rattle.result_file.proofs.progress.Progress.next.Goals as goal
 
-pub returns-in-Some-clause-next : goal.returns-in-Some-clause-next
-returns-in-Some-clause-next c = λ lines stage says h.
-    heads c.in-Some.kind c.args.line.now lines stage c.in-Some.ensures says (rw c.in-Blank.is at h)
-
-pub returns-in-Ok-clause-next : goal.returns-in-Ok-clause-next
-returns-in-Ok-clause-next c = λ lines stage says h.
-    begins c.in_ok-of-in-Ok.field-0 c.in-Headed.kind c.in-Ok.model c.args.line.now lines stage c.in-Ok.ensures.spelled c.in_ok-of-in-Ok.ensures.none says (rw c.in-Headed.is at h)
-
-pub returns-in-Headed-clause-failed : goal.returns-in-Headed-clause-failed
-returns-in-Headed-clause-failed c = λ stage h.
-    stops_headed c.in-Headed.kind c.args.line.now c.in-Err.part c.in-Err.ensures.failed stage (rw c.in-Headed.is at h)
+pub returns-then-not-is_end-clause-next : goal.returns-then-not-is_end-clause-next
+returns-then-not-is_end-clause-next c =
+    on_ok_weaker c.add.result
+    (λ added lines stage says h. adds c.in-Begun.body c.add.new.self c.args.line.now added lines stage says (rw c.in-Begun.is at h))
+    c.add.ensures.added
