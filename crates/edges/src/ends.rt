@@ -15,6 +15,9 @@ pub trait Source {
     // How many calls failed so far.
     ghost faults: { Self → ℕ };
 
+    // The names of the references that it holds, which no call exchanges.
+    ghost loans: { Self → List ℕ } = { λ _. [] };
+
     /// Takes the next bytes into the front of `buf`, and returns how many; 0 is the end of input.
     fn take(&mut self, buf: &mut [u8]) -> Result<usize, Failed>
         requires { 0 < length buf.old }
@@ -23,7 +26,8 @@ pub trait Source {
         ensures ended { IfOk result (λ n. n ≡ 0 → IsAtEnd (left self.new)) }
         ensures quiet { OnOk result (faults self.new ≡ faults self.old) }
         ensures failed { OnErr result (HasRisen (faults self.old) (faults self.new)) }
-        ensures none_lost { OnErr result (left self.new ≡ left self.old) };
+        ensures none_lost { OnErr result (left self.new ≡ left self.old) }
+        ensures loans { loans self.new ≡ loans self.old };
 }
 
 /// Where bytes go.

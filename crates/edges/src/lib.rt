@@ -8,7 +8,7 @@
 //! `MemSource` and `MemSink` are over memory and fail at the calls that a test names; `QuietSource`
 //! and `QuietSink` can't fail; `StdSource` and `StdSink` are the standard ends, which show nothing
 //! and are trusted. `Lines` has one buffer, taken by `reserve`: the longest line, its line end and
-//! 64 KiB of read-ahead; a line is a slice of it. A `Gate` is told of points in the work, at which a `ScriptGate` may hold a test. `Text` has a fixed room. `laws` says that a text
+//! 64 KiB of read-ahead; a line is a slice of it. `Rest` is what such a reader kept and then its source, as one source. A `Gate` is told of points in the work, at which a `ScriptGate` may hold a test. `Text` has a fixed room. `laws` says that a text
 //! splits into lines in one way.
 #![tactic(auto)]
 
@@ -19,15 +19,17 @@ pub mod laws;
 mod line_reader;
 mod memory_ends;
 mod quiet_ends;
+mod rest;
 mod standard_ends;
 mod text_buffer;
 
 pub use doors::{Door, DoorEnds, MemDoor};
 pub use ends::{Failed, Sink, Source};
 pub use gates::{Gate, GatePoint, Hold, OpenGate, ScriptGate};
-pub use line_reader::{LineGot, Lines};
+pub use line_reader::{LineGot, Lines, take_behind};
 pub use memory_ends::{MemSink, MemSource};
 pub use quiet_ends::{QuietSink, QuietSource};
+pub use rest::Rest;
 pub use standard_ends::{StdSink, StdSource};
 pub use std::alloc::AllocError as NoMemory;
 pub use text_buffer::{Text, put_bytes};

@@ -118,6 +118,20 @@ impl Lines {
         }
     }
 
+    /// Gives the first bytes kept, as many as fit in `buf`, and returns how many.
+    pub(crate) fn give_kept(&mut self, buf: &mut [u8]) -> usize
+        ensures within { result ≤ length buf.old }
+        ensures given { self.old.kept ≡ take result buf.new ++ self.new.kept }
+        ensures ended { result ≡ 0 → 0 < length buf.old → self.old.kept ≡ [] }
+        ensures limits { KeepsLimits self.old self.new }
+    {
+        let kept = &self.buffer[self.kept_start..self.kept_end];
+        let n = buf.len().min(kept.len());
+        buf[..n].copy_from_slice(&kept[..n]);
+        self.kept_start += n;
+        n
+    }
+
     /// Goes on to the next line where the bytes kept hold none.
     fn next_line_of<S: Source>(&mut self, source: &mut S) -> LineGot
         requires unbroken { HasNoLineEnd (take (self.old.longest + 1) self.old.kept) }
@@ -260,7 +274,11 @@ fn move_to_front(buffer: &mut Vec<u8>, start: usize, end: usize)
 }
 
 /// Takes bytes of the source into `buffer` after its first `kept` bytes, and returns how many.
-fn take_behind<S: Source>(buffer: &mut [u8], kept: usize, source: &mut S) -> Result<usize, Failed>
+pub fn take_behind<S: Source>(
+    buffer: &mut [u8],
+    kept: usize,
+    source: &mut S,
+) -> Result<usize, Failed>
     requires { kept < length buffer.old }
     ensures within { IfOk result (λ n. kept + n ≤ length buffer.old) }
     ensures front { take kept buffer.new ≡ take kept buffer.old }
@@ -270,6 +288,8 @@ fn take_behind<S: Source>(buffer: &mut [u8], kept: usize, source: &mut S) -> Res
     ensures quiet { OnOk result (S.faults source.new ≡ S.faults source.old) }
     ensures failed { OnErr result (HasRisen (S.faults source.old) (S.faults source.new)) }
     ensures none_lost { OnErr result (S.left source.new ≡ S.left source.old) }
+    ensures loans { S.loans source.new ≡ S.loans source.old }
+    ensures len { length buffer.new ≡ length buffer.old }
 {
     source.take(&mut buffer[kept..])
 }

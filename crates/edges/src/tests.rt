@@ -4,8 +4,8 @@ ghost use Rattle.edges.specs.Faults.{HasRisen};
 
 use crate::standard_ends::{read_some, write_some};
 use crate::{
-    Failed, LineGot, Lines, MemSink, MemSource, NoMemory, QuietSink, QuietSource, Sink, Source,
-    StdSink, StdSource, Text,
+    Failed, LineGot, Lines, MemSink, MemSource, NoMemory, QuietSink, QuietSource, Rest, Sink,
+    Source, StdSink, StdSource, Text,
 };
 use std::alloc::Global;
 use std::io::{Error, ErrorKind, Read, Write};
@@ -76,6 +76,26 @@ fn a_failing_call_loses_no_byte(rt: HostRuntime) -> Result<(), Fail> {
     expect_lines(&rt, &mut lines, &mut source, &want);
     let mut quiet = QuietSource::new(rt.alloc(), b"third\n")?;
     expect_lines(&rt, &mut lines, &mut quiet, &[(LineGot::Line, b"third")]);
+    Ok(())
+}
+
+#[test]
+fn the_rest_is_what_a_reader_kept_and_then_its_source(rt: HostRuntime) -> Result<(), Fail> {
+    let mut source = MemSource::new(rt.alloc(), b"first\nsecond", 8, &[2])?;
+    let mut lines = Lines::reserve(rt.alloc(), 6)?;
+    expect_lines(&rt, &mut lines, &mut source, &[(LineGot::Line, b"first")]);
+    let mut rest = Rest::of(&mut lines, &mut source);
+    let pieces: [(Result<usize, Failed>, &[u8]); 4] = [
+        (Ok(2), b"se"),
+        (Err(Failed), b""),
+        (Ok(4), b"cond"),
+        (Ok(0), b""),
+    ];
+    for (taken, bytes) in pieces {
+        let mut buf = [0; 8];
+        assert_eq!(rt; rest.take(&mut buf), taken);
+        assert!(rt; buf.starts_with(bytes));
+    }
     Ok(())
 }
 
