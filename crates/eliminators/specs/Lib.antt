@@ -1,0 +1,4 @@
+pub mod Jobs
+pub mod HandIns
+pub mod Work
+pub mod Laws
