@@ -1,0 +1,5 @@
+pub mod Numbers
+pub mod Shapes
+pub mod Items
+pub mod Read
+pub mod Commands

@@ -1,0 +1,24 @@
+-- What contracts see of options that were read.
+use Rattle.std.specs.Prelude.{ℕ, List, Option, option_map}
+use Rattle.std.specs.Borrow.{Bor}
+use Rattle.survey_words.specs.declared.items.Options.{Options}
+use Rattle.survey_words.specs.declared.items.Reading.{Reading}
+use Rattle.survey_words.specs.Items.{OptionTexts, options_after}
+
+-- the text that was lent
+abbrev pub text_lent : Option (Bor (List ℕ)) → Option (List ℕ)
+text_lent = option_map (λ text. text.now)
+
+-- the texts of the options
+abbrev pub texts_of : Options → OptionTexts
+texts_of options = record {
+  port = text_lent options.port;
+  eliminators = text_lent options.eliminators;
+  connections = text_lent options.connections;
+  sample = text_lent options.sample;
+  shape = text_lent options.shape;
+}
+
+-- the options that come of what was read so far and these words
+abbrev pub options_left : Reading → List (List ℕ) → Option OptionTexts
+options_left reading words = options_after (text_lent reading.waiting) (texts_of reading.options) words
