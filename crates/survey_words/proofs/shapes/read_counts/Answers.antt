@@ -1,7 +1,7 @@
 use Rattle.std.proofs.Common.{◌≡◌, ◌<◌, ◌≤◌, length, drop, true, false, arith}
 use Rattle.text_fields.specs.Spelling.{is_next}
 use Rattle.survey_words.specs.declared.limits.TheConstants.{MAX_SHAPE_COUNTS}
-use Rattle.survey_words.proofs.CountLemmas.{IsFront, none_left, none_read, last_read, next_read, one_more_counts}
+use Rattle.survey_words.proofs.CountLemmas.{none_left, none_read, last_read, next_read, one_more_counts}
 use Rattle.survey_words.proofs.shapes.read_counts.Goals as goal
 
 pub returns-in_default : goal.returns-in_default
