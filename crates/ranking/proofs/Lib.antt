@@ -1,0 +1,5 @@
+pub mod FieldLemmas
+pub mod RecordLemmas
+pub mod ReadLemmas
+pub mod RankLemmas
+pub mod TableLemmas

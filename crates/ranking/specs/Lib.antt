@@ -1,0 +1,4 @@
+pub mod Names
+pub mod NamedWorths
+pub mod Tables
+pub mod Rankings
