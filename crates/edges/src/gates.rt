@@ -53,7 +53,7 @@ pub struct Hold {
 
 /// A hold and what became of it.
 #[derive(Drop)]
-struct Kept {
+struct HoldState {
     hold: Hold,
     /// Somebody came to the point at which it holds.
     is_used: AtomicBool,
@@ -63,7 +63,7 @@ struct Kept {
     is_missed: AtomicBool,
 }
 
-impl Kept {
+impl HoldState {
     /// Waits until the hold is over, or was looked at too often.
     fn wait(&self) {
         for _ in 0..MOST_LOOKS {
@@ -79,44 +79,44 @@ impl Kept {
 /// A gate with a list of holds, for tests. Each hold is used once; those at one point are used in their order.
 #[derive(Drop)]
 pub struct ScriptGate {
-    kept: Vec<Kept>,
+    states: Vec<HoldState>,
 }
 
 impl ScriptGate {
     /// A gate with these holds.
     pub fn new(alloc: Global, holds: &[Hold]) -> Result<ScriptGate, NoMemory> {
-        let mut kept = Vec::with_capacity(alloc, holds.len())?;
+        let mut states = Vec::with_capacity(alloc, holds.len())?;
         for hold in holds {
-            kept.push(Kept {
+            states.push(HoldState {
                 hold: *hold,
                 is_used: AtomicBool::new(false),
                 is_over: AtomicBool::new(false),
                 is_missed: AtomicBool::new(false),
             })?;
         }
-        Ok(ScriptGate { kept })
+        Ok(ScriptGate { states })
     }
 
     /// Whether some hold let go before it was over, or wasn't used yet.
     pub fn missed(&self) -> bool {
-        self.kept.iter().any(|kept| {
-            kept.is_missed.load(Ordering::SeqCst) || !kept.is_used.load(Ordering::SeqCst)
+        self.states.iter().any(|state| {
+            state.is_missed.load(Ordering::SeqCst) || !state.is_used.load(Ordering::SeqCst)
         })
     }
 
     /// Ends the holds that last until this point.
     fn end_holds(&self, point: GatePoint) {
-        for kept in &self.kept {
-            if kept.hold.until == point {
-                kept.is_over.store(true, Ordering::SeqCst);
+        for state in &self.states {
+            if state.hold.until == point {
+                state.is_over.store(true, Ordering::SeqCst);
             }
         }
     }
 
     /// The first hold at this point that wasn't used yet; it is used then.
-    fn take_hold(&self, point: GatePoint) -> Option<&Kept> {
-        self.kept.iter().find(|kept| kept.hold.at == point
-            && !kept.is_used.swap(true, Ordering::SeqCst))
+    fn take_hold(&self, point: GatePoint) -> Option<&HoldState> {
+        self.states.iter().find(|state| state.hold.at == point
+            && !state.is_used.swap(true, Ordering::SeqCst))
     }
 }
 
@@ -124,8 +124,8 @@ impl Gate for ScriptGate {
     // The holds end before one is taken, so that a hold until its own point holds nobody.
     fn pass(&self, point: GatePoint) {
         self.end_holds(point);
-        if let Some(kept) = self.take_hold(point) {
-            kept.wait();
+        if let Some(state) = self.take_hold(point) {
+            state.wait();
         }
     }
 }

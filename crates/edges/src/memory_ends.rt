@@ -1,5 +1,5 @@
 //! A source and a sink over memory, which fail at the calls that their maker names.
-ghost use Rattle.std.specs.Prelude.{◌≡◌, ◌↔◌, ◌+◌, ◌-◌, ◌^◌, ◌<◌, ◌≤◌, [], ◌++◌, length, take, min, Contains, Some, IfOk, IsErr, IsOk, IsTrue, OnOk, OnErr};
+ghost use Rattle.std.specs.Prelude.{◌≡◌, ◌↔◌, ◌+◌, ◌-◌, ◌^◌, ◌<◌, ◌≤◌, length, take, min, Contains, Some, IfOk, IsErr, IsTrue, OnOk, OnErr};
 ghost use Rattle.edges.specs.Ends.{new_sink, new_source};
 ghost use Rattle.edges.specs.Faults.{HasRisen};
 ghost use Rattle.edges.specs.Told.{Appends, IsAtEnd, Takes};

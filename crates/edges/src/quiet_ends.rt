@@ -1,5 +1,5 @@
 //! A source and a sink that never fail.
-ghost use Rattle.std.specs.Prelude.{◌≡◌, ◌+◌, ◌-◌, ◌^◌, ◌<◌, ◌≤◌, List, [], ◌++◌, length, take, drop, min, Some, None, IfOk, IsOk, OnOk, OnErr, ◌==◌, if◌then◌else◌};
+ghost use Rattle.std.specs.Prelude.{◌≡◌, ◌+◌, ◌-◌, ◌^◌, ◌<◌, ◌≤◌, List, ◌++◌, length, take, drop, min, Some, IfOk, IsOk, OnOk, OnErr};
 ghost use Rattle.edges.specs.Ends.{free_of, new_quiet_sink, told_bytes};
 ghost use Rattle.edges.specs.Faults.{HasRisen, no_faults};
 ghost use Rattle.edges.specs.Told.{Appends, IsAtEnd, Takes};

@@ -1,7 +1,5 @@
 //! Standard input and output. What they give and take is trusted; no clause knows the content.
-ghost use Rattle.std.specs.Prelude.{◌≡◌, ◌<◌, ◌≤◌, length, take, None, IfOk, OnOk, OnErr};
-ghost use Rattle.edges.specs.Faults.{HasRisen};
-ghost use Rattle.edges.specs.Told.{Appends, IsAtEnd, Takes};
+ghost use Rattle.std.specs.Prelude.{◌≡◌, ◌≤◌, length, take, None, IfOk};
 
 use crate::ends::{Failed, Sink, Source};
 use std::io::{ErrorKind, Read, Stdin, Stdout, Write};

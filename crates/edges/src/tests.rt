@@ -1,5 +1,5 @@
 //! Sources and sinks that fail, give little or have little room, and lines over them.
-ghost use Rattle.std.specs.Prelude.{◌≡◌, ◌<◌, ◌≤◌, length, IfOk, IsTrue, false};
+ghost use Rattle.std.specs.Prelude.{◌≡◌, length, IfOk, IsTrue, false};
 ghost use Rattle.edges.specs.Faults.{HasRisen};
 
 use crate::standard_ends::{read_some, write_some};

@@ -1,5 +1,5 @@
 //! A text that is put together in memory and then written to a sink.
-ghost use Rattle.std.specs.Prelude.{◌≡◌, ◌+◌, ◌<◌, ◌≤◌, [], ◌++◌, length, IfOk, OnOk, OnErr, MatchResult};
+ghost use Rattle.std.specs.Prelude.{◌≡◌, ◌+◌, ◌<◌, ◌≤◌, [], ◌++◌, length, IfOk, OnOk, OnErr};
 ghost use Rattle.edges.specs.Faults.{HasRisen};
 ghost use Rattle.edges.specs.Text.{new_text};
 ghost use Rattle.edges.specs.Told.{Appends, AppendsPrefix};
@@ -43,6 +43,7 @@ impl Text {
         requires { length self.old.bytes + length bytes.now ≤ self.old.room }
         ensures bytes { self.new.bytes ≡ self.old.bytes ++ bytes.now }
         ensures room { self.new.room ≡ self.old.room }
+        ensures grown { length self.new.bytes ≡ length self.old.bytes + length bytes.now }
     {
         if self.bytes.extend_from_slice(bytes).is_err() {
             unreachable!()

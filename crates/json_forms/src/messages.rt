@@ -3,7 +3,7 @@ ghost use Rattle.serde_json.specs.Find.{as_str};
 ghost use Rattle.serde_json.specs.View.{view};
 ghost use Rattle.json_forms.specs.HelloView.{HelloView};
 ghost use Rattle.json_forms.specs.Sides.{side_of};
-ghost use Rattle.json_forms.specs.Messages.{request_of, question_of, hello_in, answer_in, message_named, message_in, message_of};
+ghost use Rattle.json_forms.specs.Messages.{request_of, question_of, hello_in, answer_in, message_in, message_of};
 
 use crate::members::{only_member, read_json, text_member, whole_member};
 use criteria_model::Side;

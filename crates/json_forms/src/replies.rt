@@ -8,7 +8,7 @@ ghost use Rattle.json_forms.specs.Json.{array_of, certificate, named};
 ghost use Rattle.json_forms.specs.Sides.{side_word};
 ghost use Rattle.json_forms.specs.Replies.{IsWritable, HasVector, json_line, reply_text, welcome_json, next_json, question_json, answer_json, implied_json, combination_json, values_json, vector_json, level_values, level_values_json, incomplete_json, withdraw_json, withdrawn_json, refused_json, word_text};
 
-use crate::writing::{Item, put, separate, write_array};
+use crate::writing::{Item, separate, write_array};
 use criteria_model::{MAX_LEVEL, Model, Pair, Side, Vector};
 use edges::Text;
 use farkas_check::Combination;
@@ -66,7 +66,7 @@ pub fn write_reply(reply: &Reply, model: &Model, out: &mut Text)
         Reply::Values(reply) => write_values(reply, model, out),
         Reply::Withdraw(reply) => write_withdraw(*reply, out),
         Reply::Result { .. } => {}
-        Reply::Bye => put(b"{\"bye\":true}\n", out),
+        Reply::Bye => out.add(b"{\"bye\":true}\n"),
         Reply::Refused(word) => write_refused(*word, out),
     }
 }
@@ -77,11 +77,11 @@ fn write_welcome(classes: u32, desk: u8, out: &mut Text)
     ensures room { out.new.room ≡ out.old.room }
     ensures grown { length out.new.bytes ≤ length out.old.bytes + MAX_REPLY }
 {
-    put(b"{\"welcome\":{\"classes\":", out);
+    out.add(b"{\"welcome\":{\"classes\":");
     classes.write(out);
-    put(b",\"desk\":", out);
+    out.add(b",\"desk\":");
     desk.write(out);
-    put(b"}}\n", out);
+    out.add(b"}}\n");
 }
 
 fn write_next(reply: &NextReply, out: &mut Text)
@@ -92,9 +92,9 @@ fn write_next(reply: &NextReply, out: &mut Text)
 {
     match reply {
         NextReply::Question { number, pair, .. } => write_question(*number, pair, out),
-        NextReply::Full { .. } => put(b"{\"full\":true}\n", out),
-        NextReply::Waiting { .. } => put(b"{\"waiting\":true}\n", out),
-        NextReply::Complete { .. } => put(b"{\"complete\":true}\n", out),
+        NextReply::Full { .. } => out.add(b"{\"full\":true}\n"),
+        NextReply::Waiting { .. } => out.add(b"{\"waiting\":true}\n"),
+        NextReply::Complete { .. } => out.add(b"{\"complete\":true}\n"),
     }
 }
 
@@ -104,13 +104,13 @@ fn write_question(number: u32, pair: &Pair, out: &mut Text)
     ensures room { out.new.room ≡ out.old.room }
     ensures grown { length out.new.bytes ≤ length out.old.bytes + MAX_REPLY }
 {
-    put(b"{\"question\":{\"left\":", out);
+    out.add(b"{\"question\":{\"left\":");
     write_array(pair.left.as_slice(), out);
-    put(b",\"number\":", out);
+    out.add(b",\"number\":");
     number.write(out);
-    put(b",\"right\":", out);
+    out.add(b",\"right\":");
     write_array(pair.right.as_slice(), out);
-    put(b"}}\n", out);
+    out.add(b"}}\n");
 }
 
 fn write_answer(reply: &AnswerReply, out: &mut Text)
@@ -140,9 +140,9 @@ fn write_numbered(front: &[u8], number: u32, out: &mut Text)
     ensures room { out.new.room ≡ out.old.room }
     ensures grown { length out.new.bytes ≤ length out.old.bytes + 32 }
 {
-    put(front, out);
+    out.add(front);
     number.write(out);
-    put(b"}\n", out);
+    out.add(b"}\n");
 }
 
 fn write_implied(question: u32, verdict: Side, combination: &Combination, out: &mut Text)
@@ -151,13 +151,13 @@ fn write_implied(question: u32, verdict: Side, combination: &Combination, out: &
     ensures room { out.new.room ≡ out.old.room }
     ensures grown { length out.new.bytes ≤ length out.old.bytes + MAX_REPLY }
 {
-    put(b"{\"implied\":{\"combination\":", out);
+    out.add(b"{\"implied\":{\"combination\":");
     write_combination(combination, out);
-    put(b",\"question\":", out);
+    out.add(b",\"question\":");
     question.write(out);
-    put(b",\"verdict\":", out);
-    put(quoted_side(verdict).as_bytes(), out);
-    put(b"}}\n", out);
+    out.add(b",\"verdict\":");
+    out.add(quoted_side(verdict).as_bytes());
+    out.add(b"}}\n");
 }
 
 fn write_combination(combination: &Combination, out: &mut Text)
@@ -166,13 +166,13 @@ fn write_combination(combination: &Combination, out: &mut Text)
     ensures room { out.new.room ≡ out.old.room }
     ensures grown { length out.new.bytes ≤ length out.old.bytes + 2500 }
 {
-    put(b"{\"answers\":", out);
+    out.add(b"{\"answers\":");
     write_array(combination.answers.as_slice(), out);
-    put(b",\"increments\":", out);
+    out.add(b",\"increments\":");
     write_array(combination.increments.as_slice(), out);
-    put(b",\"scale\":", out);
+    out.add(b",\"scale\":");
     combination.scale.write(out);
-    put(b"}", out);
+    out.add(b"}");
 }
 
 /// The word of a side as a string.
@@ -207,13 +207,13 @@ fn write_vector(vector: &Vector, model: &Model, out: &mut Text)
     ensures room { out.new.room ≡ out.old.room }
     ensures grown { length out.new.bytes ≤ length out.old.bytes + MAX_REPLY }
 {
-    put(b"{\"values\":{\"levels\":", out);
+    out.add(b"{\"values\":{\"levels\":");
     write_level_values(vector, model, out);
-    put(b",\"vector\":", out);
+    out.add(b",\"vector\":");
     write_array(vector.as_slice(), out);
-    put(b",\"weights\":", out);
+    out.add(b",\"weights\":");
     write_array(shares(model, vector).as_slice(), out);
-    put(b"}}\n", out);
+    out.add(b"}}\n");
 }
 
 fn write_incomplete(pair: &Pair, out: &mut Text)
@@ -222,11 +222,11 @@ fn write_incomplete(pair: &Pair, out: &mut Text)
     ensures room { out.new.room ≡ out.old.room }
     ensures grown { length out.new.bytes ≤ length out.old.bytes + MAX_REPLY }
 {
-    put(b"{\"incomplete\":{\"left\":", out);
+    out.add(b"{\"incomplete\":{\"left\":");
     write_array(pair.left.as_slice(), out);
-    put(b",\"right\":", out);
+    out.add(b",\"right\":");
     write_array(pair.right.as_slice(), out);
-    put(b"}}\n", out);
+    out.add(b"}}\n");
 }
 
 /// Writes the values of all levels, an array for each criterion.
@@ -237,12 +237,12 @@ fn write_level_values(vector: &Vector, model: &Model, out: &mut Text)
     ensures room { out.new.room ≡ out.old.room }
     ensures grown { length out.new.bytes ≤ length out.old.bytes + 2500 }
 {
-    put(b"[", out);
+    out.add(b"[");
     for place in 0..model.criteria() {
         separate(place > 0, out);
         write_values_of(vector, model, place + 1, out);
     }
-    put(b"]", out);
+    out.add(b"]");
 }
 
 /// Writes the values of a criterion's levels.
@@ -275,8 +275,8 @@ fn write_withdraw(reply: WithdrawReply, out: &mut Text)
             question,
             ..
         } => write_withdrawn(answer, question, out),
-        WithdrawReply::Nothing { .. } => put(b"{\"nothing\":true}\n", out),
-        WithdrawReply::Spent { .. } => put(b"{\"spent\":true}\n", out),
+        WithdrawReply::Nothing { .. } => out.add(b"{\"nothing\":true}\n"),
+        WithdrawReply::Spent { .. } => out.add(b"{\"spent\":true}\n"),
     }
 }
 
@@ -286,11 +286,11 @@ fn write_withdrawn(answer: u32, question: u32, out: &mut Text)
     ensures room { out.new.room ≡ out.old.room }
     ensures grown { length out.new.bytes ≤ length out.old.bytes + MAX_REPLY }
 {
-    put(b"{\"withdrawn\":{\"answer\":", out);
+    out.add(b"{\"withdrawn\":{\"answer\":");
     answer.write(out);
-    put(b",\"question\":", out);
+    out.add(b",\"question\":");
     question.write(out);
-    put(b"}}\n", out);
+    out.add(b"}}\n");
 }
 
 fn write_refused(word: Word, out: &mut Text)
@@ -299,9 +299,9 @@ fn write_refused(word: Word, out: &mut Text)
     ensures room { out.new.room ≡ out.old.room }
     ensures grown { length out.new.bytes ≤ length out.old.bytes + MAX_REPLY }
 {
-    put(b"{\"refused\":\"", out);
-    put(word_name(word).as_bytes(), out);
-    put(b"\"}\n", out);
+    out.add(b"{\"refused\":\"");
+    out.add(word_name(word).as_bytes());
+    out.add(b"\"}\n");
 }
 
 /// The word of a refusal.

@@ -2,7 +2,6 @@
 ghost use Rattle.std.specs.Prelude.{◌≡◌, ◌≤ℤ◌, pos, length, All, IfOk, IfSome, MatchOption, None, Some};
 ghost use Rattle.serde_json.specs.View.{view, items_view};
 ghost use Rattle.criteria_model.specs.Worth.{IsValueVector, increments};
-ghost use Rattle.text_fields.specs.Reading.{read_certificate};
 ghost use Rattle.text_fields.specs.Spelling.{IsCertificate};
 ghost use Rattle.json_forms.specs.Members.{each};
 ghost use Rattle.json_forms.specs.Vectors.{positive_of, positive_in, positives_of, vector_in, values_vector};

@@ -31,7 +31,7 @@ impl Item for u8 {
 
     fn write(self, out: &mut Text) {
         let mut buffer = Buffer::new();
-        put(buffer.format(self).as_bytes(), out);
+        out.add(buffer.format(self).as_bytes());
     }
 }
 
@@ -43,7 +43,7 @@ impl Item for u32 {
 
     fn write(self, out: &mut Text) {
         let mut buffer = Buffer::new();
-        put(buffer.format(self).as_bytes(), out);
+        out.add(buffer.format(self).as_bytes());
     }
 }
 
@@ -55,9 +55,9 @@ impl Item for i128 {
 
     fn write(self, out: &mut Text) {
         let mut buffer = Buffer::new();
-        put(b"\"", out);
-        put(buffer.format(self).as_bytes(), out);
-        put(b"\"", out);
+        out.add(b"\"");
+        out.add(buffer.format(self).as_bytes());
+        out.add(b"\"");
     }
 }
 
@@ -68,22 +68,12 @@ impl Item for Cite {
     ghost longest = { 55 };
 
     fn write(self, out: &mut Text) {
-        put(b"[", out);
+        out.add(b"[");
         self.answer.write(out);
-        put(b",", out);
+        out.add(b",");
         self.weight.write(out);
-        put(b"]", out);
+        out.add(b"]");
     }
-}
-
-/// Writes these bytes.
-pub(crate) fn put(bytes: &[u8], out: &mut Text)
-    requires { length out.old.bytes + length bytes.now ≤ out.old.room }
-    ensures bytes { out.new.bytes ≡ out.old.bytes ++ bytes.now }
-    ensures room { out.new.room ≡ out.old.room }
-    ensures grown { length out.new.bytes ≡ length out.old.bytes + length bytes.now }
-{
-    out.add(bytes);
 }
 
 /// Writes a comma where something stands before.
@@ -94,7 +84,7 @@ pub(crate) fn separate(later: bool, out: &mut Text)
     ensures grown { length out.new.bytes ≤ length out.old.bytes + 1 }
 {
     if later {
-        put(b",", out);
+        out.add(b",");
     }
 }
 
@@ -105,10 +95,10 @@ pub(crate) fn write_array<T: Item>(items: &[T], out: &mut Text)
     ensures room { out.new.room ≡ out.old.room }
     ensures grown { length out.new.bytes ≤ length out.old.bytes + (T.longest + 1) * length items.now + 2 }
 {
-    put(b"[", out);
+    out.add(b"[");
     for (place, item) in items.iter().enumerate() {
         separate(place > 0, out);
         item.write(out);
     }
-    put(b"]", out);
+    out.add(b"]");
 }

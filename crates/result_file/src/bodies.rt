@@ -1,5 +1,5 @@
 //! What stands between the model line and the end of a file.
-ghost use Rattle.std.specs.Prelude.{◌≡◌, ◌≢◌, ℕ, OnOk, IfOk, IfErr};
+ghost use Rattle.std.specs.Prelude.{◌≡◌, ◌≢◌, OnOk, IfOk, IfErr};
 ghost use Rattle.result_file.specs.Bodies.{Keeps, Starts, Adds, IsOfWhole};
 ghost use Rattle.result_file.specs.Checked.{begun};
 ghost use Rattle.result_file.specs.Contents.{Content};

@@ -1,5 +1,5 @@
 //! The claims of a file, one after the other.
-ghost use Rattle.std.specs.Prelude.{◌≡◌, ◌≢◌, ℕ, ◌+◌, ◌<◌, ◌≤◌, List, [], ◌∷◌, ◌++◌, length, OnOk, IfOk, IfErr, IfSome, None, All, unsigned_abs};
+ghost use Rattle.std.specs.Prelude.{◌≡◌, ◌≢◌, ◌<◌, ◌≤◌, List, [], length, OnOk, IfOk, IfErr, All, unsigned_abs};
 ghost use Rattle.criteria_model.specs.Criteria.{Criteria, IsModel};
 ghost use Rattle.criteria_model.specs.Classes.{IsClass};
 ghost use Rattle.criteria_model.specs.Worth.{increments as increments_of};

@@ -1,6 +1,4 @@
-ghost use Rattle.std.specs.Prelude.{◌≡◌, None, Some, take, MatchOption, IfSome};
-ghost use Rattle.text_fields.specs.Spelling.{IsCertificate};
-ghost use Rattle.farkas_check.specs.Cited.{AreCites};
+ghost use Rattle.std.specs.Prelude.{None, Some};
 ghost use Rattle.result_file.specs.Reading.{read_elimination};
 ghost use Rattle.result_file.specs.Eliminations.{Reads};
 

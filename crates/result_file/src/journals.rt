@@ -1,6 +1,5 @@
 //! Writes the journal of a survey as a result.
-ghost use Rattle.std.specs.Prelude.{◌≡◌, ◌≢◌, ℕ, ◌+◌, ◌<◌, ◌≤◌, List, [], ◌∷◌, ◌++◌, length, map, take, All, Option, Some, OnOk, OnErr};
-ghost use mathlib.Core.List.{IsPrefix};
+ghost use Rattle.std.specs.Prelude.{◌≡◌, ℕ, ◌+◌, ◌≤◌, List, [], ◌∷◌, ◌++◌, length, map, take, All, Option, Some, OnOk, OnErr};
 ghost use Rattle.edges.specs.Faults.{HasRisen};
 ghost use Rattle.edges.specs.Line.{line_end, unlines};
 ghost use Rattle.edges.specs.Told.{Appends, AppendsPrefix};
@@ -12,7 +11,6 @@ ghost use Rattle.survey_replies.specs.Calls.{Watches};
 ghost use Rattle.result_file.specs.Events.{entry_on, as_entry, event_line, NamesClass};
 ghost use Rattle.result_file.specs.Files.{file_text, result_of, IsRightFile, IsOut};
 ghost use Rattle.result_file.specs.Numbers.{HasNumbers};
-ghost use Rattle.result_file.specs.Texts.{heading, model_line, end_line};
 
 use crate::entries::Format;
 use crate::kinds::Kind;

@@ -1,5 +1,5 @@
 //! The fields of a line.
-ghost use Rattle.std.specs.Prelude.{◌≡◌, ◌<◌, ◌≤◌, None, Some, length, take, MatchOption, IfSome, unsigned_abs};
+ghost use Rattle.std.specs.Prelude.{◌≡◌, ◌<◌, ◌≤◌, None, Some, length, take, MatchOption, IfSome};
 ghost use Rattle.text_fields.specs.Spelling.{IsCertificate};
 ghost use Rattle.text_fields.specs.Reading.{ReadsAs, ReadsListAs, read_list};
 ghost use Rattle.result_file.specs.Reading.{read_tuple, read_pair, read_side, read_ranking, read_answer, read_model, read_weights, read_cite, read_cites, read_combination};

@@ -1,5 +1,5 @@
 //! The events of a result, one after the other.
-ghost use Rattle.std.specs.Prelude.{◌≡◌, ◌≢◌, ◌↔◌, ◌+◌, ◌<◌, ◌≤◌, [], length, OnOk, IfOk, IfErr, MatchOption, IsTrue};
+ghost use Rattle.std.specs.Prelude.{◌≡◌, ◌≢◌, ◌↔◌, ◌≤◌, length, OnOk, IfOk, IfErr, MatchOption, IsTrue};
 ghost use Rattle.survey_core.specs.declared.events.Event.{Event as SurveyEvent};
 ghost use Rattle.survey_core.specs.Laws.{RanksEachClass};
 ghost use Rattle.result_file.specs.Checked.{begun};

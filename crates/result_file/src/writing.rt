@@ -42,7 +42,7 @@ impl Item for u8 {
 
     fn write(self, out: &mut Text) {
         let mut buffer = Buffer::new();
-        put(buffer.format(self).as_bytes(), out);
+        out.add(buffer.format(self).as_bytes());
     }
 }
 
@@ -54,7 +54,7 @@ impl Item for u32 {
 
     fn write(self, out: &mut Text) {
         let mut buffer = Buffer::new();
-        put(buffer.format(self).as_bytes(), out);
+        out.add(buffer.format(self).as_bytes());
     }
 }
 
@@ -66,7 +66,7 @@ impl Item for i128 {
 
     fn write(self, out: &mut Text) {
         let mut buffer = Buffer::new();
-        put(buffer.format(self).as_bytes(), out);
+        out.add(buffer.format(self).as_bytes());
     }
 }
 
@@ -78,19 +78,9 @@ impl Item for Cite {
 
     fn write(self, out: &mut Text) {
         self.answer.write(out);
-        put(b":", out);
+        out.add(b":");
         self.weight.write(out);
     }
-}
-
-/// Writes these bytes.
-fn put(bytes: &[u8], out: &mut Text)
-    requires { length out.old.bytes + length bytes.now ≤ out.old.room }
-    ensures bytes { out.new.bytes ≡ out.old.bytes ++ bytes.now }
-    ensures room { out.new.room ≡ out.old.room }
-    ensures grown { length out.new.bytes ≡ length out.old.bytes + length bytes.now }
-{
-    out.add(bytes);
 }
 
 /// Writes the items, joined by commas.
@@ -114,7 +104,7 @@ fn write_others<T: Item>(items: &[T], out: &mut Text)
     ensures grown { length out.new.bytes ≤ length out.old.bytes + (T.longest + 1) * length items.now }
 {
     for item in items {
-        put(b",", out);
+        out.add(b",");
         item.write(out);
     }
 }
@@ -127,7 +117,7 @@ fn write_pair(pair: &Pair, out: &mut Text)
     ensures grown { length out.new.bytes ≤ length out.old.bytes + 193 }
 {
     write_list(pair.left.as_slice(), out);
-    put(b"/", out);
+    out.add(b"/");
     write_list(pair.right.as_slice(), out);
 }
 
@@ -151,7 +141,7 @@ fn write_numbers(desk: u8, number: u32, out: &mut Text)
     ensures grown { length out.new.bytes ≤ length out.old.bytes + 14 }
 {
     desk.write(out);
-    put(b" ", out);
+    out.add(b" ");
     number.write(out);
 }
 
@@ -176,7 +166,7 @@ fn write_vectors(plus: &Vector, minus: &Vector, out: &mut Text)
     ensures minus { IsVector minus.now }
 {
     write_vector(plus, out);
-    put(b" ", out);
+    out.add(b" ");
     write_vector(minus, out);
 }
 
@@ -190,7 +180,7 @@ fn write_cites(cites: &Cites, out: &mut Text)
 {
     let cites = cites.as_slice();
     if cites.is_empty() {
-        put(b"-", out);
+        out.add(b"-");
     } else {
         write_list(cites, out);
     }
@@ -206,9 +196,9 @@ fn write_combination(combination: &Combination, out: &mut Text)
     ensures cites { AreCites combination.now.answers }
 {
     combination.scale.write(out);
-    put(b" ", out);
+    out.add(b" ");
     write_vector(&combination.increments, out);
-    put(b" ", out);
+    out.add(b" ");
     write_cites(&combination.answers, out);
 }
 
@@ -226,13 +216,13 @@ fn write_elimination(
     ensures weights { IsVector combination.now.increments }
     ensures cites { AreCites combination.now.answers }
 {
-    put(b"eliminate ", out);
+    out.add(b"eliminate ");
     worker.write(out);
-    put(b" ", out);
+    out.add(b" ");
     write_pair(pair, out);
-    put(b" ", out);
-    put(side_word(verdict), out);
-    put(b" ", out);
+    out.add(b" ");
+    out.add(side_word(verdict));
+    out.add(b" ");
     write_combination(combination, out);
 }
 
@@ -244,11 +234,11 @@ fn write_issue(desk: u8, pair: &Pair, plus: &Vector, minus: &Vector, out: &mut T
     ensures plus { IsVector plus.now }
     ensures minus { IsVector minus.now }
 {
-    put(b"issue ", out);
+    out.add(b"issue ");
     desk.write(out);
-    put(b" ", out);
+    out.add(b" ");
     write_pair(pair, out);
-    put(b" ", out);
+    out.add(b" ");
     write_vectors(plus, minus, out);
 }
 
@@ -269,13 +259,13 @@ fn write_commit(
     ensures minus { IsVector minus.now }
     ensures point { IsVector point.now }
 {
-    put(b"commit ", out);
+    out.add(b"commit ");
     write_numbers(desk, question, out);
-    put(b" ", out);
-    put(side_word(side), out);
-    put(b" ", out);
+    out.add(b" ");
+    out.add(side_word(side));
+    out.add(b" ");
     write_vectors(plus, minus, out);
-    put(b" ", out);
+    out.add(b" ");
     write_vector(point, out);
 }
 
@@ -285,11 +275,11 @@ pub(crate) fn write_heading(model: &Model, out: &mut Text)
     ensures bytes { out.new.bytes ≡ out.old.bytes ++ unlines (heading (Result Two) ∷ model_line model.now ∷ []) }
     ensures room { out.new.room ≡ out.old.room }
 {
-    put(b"paprika result 2\nmodel ", out);
+    out.add(b"paprika result 2\nmodel ");
     write_levels(model, out);
-    put(b" degree ", out);
+    out.add(b" degree ");
     model.degree().write(out);
-    put(b"\n", out);
+    out.add(b"\n");
 }
 
 /// Writes the number of each criterion's levels.
@@ -314,7 +304,7 @@ fn write_levels_of(model: &Model, criteria: u8, out: &mut Text)
 {
     model.levels(1).write(out);
     for criterion in 1..criteria {
-        put(b",", out);
+        out.add(b",");
         model.levels(criterion + 1).write(out);
     }
 }
@@ -327,7 +317,7 @@ fn write_numbered(word: &[u8], desk: u8, number: u32, out: &mut Text)
     ensures room { out.new.room ≡ out.old.room }
     ensures grown { length out.new.bytes ≤ length out.old.bytes + 23 }
 {
-    put(word, out);
+    out.add(word);
     write_numbers(desk, number, out);
 }
 

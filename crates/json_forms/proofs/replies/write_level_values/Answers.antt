@@ -15,8 +15,8 @@ separate-requires c =
           (omega (arith, c.criteria-place-end.ensures.value, c.loop-place-test.true)),
       c.loop-place.invariant.short,
       c.loop-place.invariant.room,
-      c.put.ensures.grown,
-      c.put.ensures.room,
+      c.add.ensures.grown,
+      c.add.ensures.room,
       c.requires.room,
     )
 
@@ -31,8 +31,8 @@ write_values_of-requires-clause-room c =
       increments_more c.args.model.now.levels c.loop-place.place within,
       c.loop-place.invariant.short,
       c.loop-place.invariant.room,
-      c.put.ensures.grown,
-      c.put.ensures.room,
+      c.add.ensures.grown,
+      c.add.ensures.room,
       c.requires.room,
       c.separate.ensures.grown,
       c.separate.ensures.room,
@@ -44,7 +44,7 @@ loop-place-preserved c =
     let within : c.loop-place.place < length c.args.model.now.levels = omega (arith, c.criteria-place-end.ensures.value, c.loop-place-test.true) in
     record {
       out = range_more (λ criterion. array_of certificate (level_values levels c.args.vector.now criterion)) c.loop-place.place
-          c.put.new.out.bytes c.loop-place.out.bytes c.separate.new.out.bytes c.write_values_of.new.out.bytes
+          c.add.new.self.bytes c.loop-place.out.bytes c.separate.new.out.bytes c.write_values_of.new.out.bytes
           c.loop-place.invariant.out c.separate.ensures.bytes c.write_values_of.ensures.bytes;
       short = omega (
         arith,
@@ -56,8 +56,8 @@ loop-place-preserved c =
       room = c.write_values_of.ensures.room ∙ c.separate.ensures.room ∙ c.loop-place.invariant.room;
     }
 
-pub put-requires-2 : goal.put-requires-2
-put-requires-2 c =
+pub add-requires-2 : goal.add-requires-2
+add-requires-2 c =
     let model = c.criteria-place-end.ensures.model in
     omega (
       arith,
@@ -65,8 +65,8 @@ put-requires-2 c =
           (omega (arith, c.criteria-place-end.ensures.value, c.loop-place.auto.place-end)),
       c.loop-place.invariant.short,
       c.loop-place.invariant.room,
-      c.put.ensures.grown,
-      c.put.ensures.room,
+      c.add.ensures.grown,
+      c.add.ensures.room,
       c.requires.room,
     )
 
@@ -74,9 +74,9 @@ pub returns-clause-bytes : goal.returns-clause-bytes
 returns-clause-bytes c =
     let f = λ (criterion : ℕ). array_of certificate (level_values c.args.model.now.levels c.args.vector.now criterion) in
     let end : c.loop-place.place ≡ length c.args.model.now.levels = omega (arith, c.criteria-place-end.ensures.value, c.loop-place.auto.place-end, c.loop-place-test.false) in
-    array_end (map f (range_with_len 1 (length c.args.model.now.levels))) c.args.out.now.bytes c.put.new.out.bytes c.loop-place.out.bytes c.put-2.new.out.bytes c.put.ensures.bytes
-    (c.loop-place.invariant.out ∙ ap (λ n. c.put.new.out.bytes ++ front false (map f (range_with_len 1 n))) end)
-    c.put-2.ensures.bytes
+    array_end (map f (range_with_len 1 (length c.args.model.now.levels))) c.args.out.now.bytes c.add.new.self.bytes c.loop-place.out.bytes c.add-2.new.self.bytes c.add.ensures.bytes
+    (c.loop-place.invariant.out ∙ ap (λ n. c.add.new.self.bytes ++ front false (map f (range_with_len 1 n))) end)
+    c.add-2.ensures.bytes
 
 pub returns-clause-grown : goal.returns-clause-grown
 returns-clause-grown c =
@@ -86,6 +86,6 @@ returns-clause-grown c =
       few_bytes c.args.model.now.levels c.loop-place.place model.two_levels model.few_increments
           (omega (arith, c.criteria-place-end.ensures.value, c.loop-place.auto.place-end)),
       c.loop-place.invariant.short,
-      c.put.ensures.grown,
-      c.put-2.ensures.grown,
+      c.add.ensures.grown,
+      c.add-2.ensures.grown,
     )

@@ -9,11 +9,11 @@ pub returns-clause-bytes : goal.returns-clause-bytes
 unfolding escape_byte
 returns-clause-bytes c =
     three_within c.args.out.now.bytes (codes "{\"question\":{\"left\":") (compact_text (array_of whole c.args.pair.now.left)) (codes ",\"number\":") (decimal c.args.number) (codes ",\"right\":") (compact_text (array_of whole c.args.pair.now.right)) (codes "}") (codes "}") (codes "\n")
-    c.put.new.out.bytes c.write_array.new.out.bytes c.put-2.new.out.bytes c.write.new.out.bytes c.put-3.new.out.bytes c.write_array-2.new.out.bytes c.put-4.new.out.bytes
-    c.put.ensures.bytes
-    (c.write_array.ensures.bytes ∙ ap (λ xs. c.put.new.out.bytes ++ compact_text (array_of whole xs)) c.as_slice.ensures.value)
-    c.put-2.ensures.bytes
+    c.add.new.self.bytes c.write_array.new.out.bytes c.add-2.new.self.bytes c.write.new.out.bytes c.add-3.new.self.bytes c.write_array-2.new.out.bytes c.add-4.new.self.bytes
+    c.add.ensures.bytes
+    (c.write_array.ensures.bytes ∙ ap (λ xs. c.add.new.self.bytes ++ compact_text (array_of whole xs)) c.as_slice.ensures.value)
+    c.add-2.ensures.bytes
     c.write.ensures.bytes
-    c.put-3.ensures.bytes
-    (c.write_array-2.ensures.bytes ∙ ap (λ xs. c.put-3.new.out.bytes ++ compact_text (array_of whole xs)) c.as_slice-2.ensures.value)
-    c.put-4.ensures.bytes
+    c.add-3.ensures.bytes
+    (c.write_array-2.ensures.bytes ∙ ap (λ xs. c.add-3.new.self.bytes ++ compact_text (array_of whole xs)) c.as_slice-2.ensures.value)
+    c.add-4.ensures.bytes

@@ -4,4 +4,4 @@ use Rattle.json_forms.proofs.replies.write_withdrawn.Goals as goal
 
 pub returns-clause-bytes : goal.returns-clause-bytes
 unfolding escape_byte
-returns-clause-bytes c = rw (c.put-3.ensures.bytes, c.write-2.ensures.bytes, c.put-2.ensures.bytes, c.write.ensures.bytes, c.put.ensures.bytes) (simp (append_assoc) refl)
+returns-clause-bytes c = rw (c.add-3.ensures.bytes, c.write-2.ensures.bytes, c.add-2.ensures.bytes, c.write.ensures.bytes, c.add.ensures.bytes) (simp (append_assoc) refl)

@@ -11,8 +11,8 @@ loop-criterion-init c = record {
 
 pub loop-criterion-preserved : goal.loop-criterion-preserved
 loop-criterion-preserved c = record {
-  out = listed_more decimal c.args.model.now.levels c.loop-criterion.criterion c.levels-in-loop-criterion.result c.args.out.now.bytes c.loop-criterion.out.bytes c.put.new.out.bytes c.write-in-loop-criterion.new.out.bytes
-      c.loop-criterion.auto.criterion (item_here c.args.model.now.levels c.loop-criterion.criterion c.levels-in-loop-criterion.result c.levels-in-loop-criterion.ensures.value) c.loop-criterion.invariant.out c.put.ensures.bytes c.write-in-loop-criterion.ensures.bytes;
-  short = omega (arith, c.write-in-loop-criterion.ensures.grown, c.put.ensures.grown, c.loop-criterion.invariant.short);
-  room = c.write-in-loop-criterion.ensures.room ∙ c.put.ensures.room ∙ c.loop-criterion.invariant.room;
+  out = listed_more decimal c.args.model.now.levels c.loop-criterion.criterion c.levels-in-loop-criterion.result c.args.out.now.bytes c.loop-criterion.out.bytes c.add.new.self.bytes c.write-in-loop-criterion.new.out.bytes
+      c.loop-criterion.auto.criterion (item_here c.args.model.now.levels c.loop-criterion.criterion c.levels-in-loop-criterion.result c.levels-in-loop-criterion.ensures.value) c.loop-criterion.invariant.out c.add.ensures.bytes c.write-in-loop-criterion.ensures.bytes;
+  short = omega (arith, c.write-in-loop-criterion.ensures.grown, c.add.ensures.grown, c.loop-criterion.invariant.short);
+  room = c.write-in-loop-criterion.ensures.room ∙ c.add.ensures.room ∙ c.loop-criterion.invariant.room;
 }

@@ -8,9 +8,9 @@ pub returns-clause-bytes : goal.returns-clause-bytes
 returns-clause-bytes c =
     rw (
       quoted-signed c.args.self,
-      c.put-3.ensures.bytes,
-      c.put-2.ensures.bytes,
-      c.put.ensures.bytes,
+      c.add-3.ensures.bytes,
+      c.add-2.ensures.bytes,
+      c.add.ensures.bytes,
       c.as_bytes.ensures.value,
       c.format.ensures.text,
       to_z-of_z w128 c.args.self c.ranges.self,
