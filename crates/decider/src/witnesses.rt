@@ -10,7 +10,7 @@ ghost use Rattle.simplex.specs.Rows.{IsCoprime};
 ghost use Rattle.decider.specs.declared.witnesses.Witness.{Witness};
 ghost use Rattle.decider.specs.Witnesses.{IsGaining};
 
-use answer_rows::{Answer, Answers, is_same_answer};
+use answer_rows::{Answers, common_front};
 use criteria_model::{Model, Pair, Row, Side, Vector};
 use fraction_free::NoMemory;
 use std::alloc::Global;
@@ -80,8 +80,9 @@ impl Witnesses {
         ensures levels { IsTrue result → self.now.levels ≡ model.now.levels }
         ensures begins { IsTrue result → BeginsWith answers.now.answers self.now.answers.answers }
     {
+        let known = self.answers.as_slice();
         has_same_levels(&self.model, model)
-            && begins_with(answers.as_slice(), self.answers.as_slice())
+            && common_front(answers.as_slice(), known) == known.len()
     }
 
     /// Drops all vectors and answers.
@@ -276,21 +277,6 @@ fn has_same_levels(one: &Model, other: &Model) -> bool
     }
     for at in 0..one.criteria() {
         if one.levels(at + 1) != other.levels(at + 1) {
-            return false;
-        }
-    }
-    true
-}
-
-/// Whether the list begins with the others.
-fn begins_with(whole: &[Answer], front: &[Answer]) -> bool
-    ensures { IsTrue result → BeginsWith whole.now front.now }
-{
-    if whole.len() < front.len() {
-        return false;
-    }
-    for place in 0..front.len() {
-        if !is_same_answer(&whole[place], &front[place]) {
             return false;
         }
     }

@@ -27,7 +27,6 @@ mod access;
 mod answer;
 mod calls;
 mod findings;
-mod front;
 mod journal;
 pub mod laws;
 mod next;

@@ -11,10 +11,10 @@ ghost use Rattle.survey_core.specs.Laws.{last_point, RanksEachClass};
 ghost use Rattle.survey_replies.specs.Interview.{answered};
 ghost use Rattle.survey_state.specs.States.{Surveyed, changes_answers as changes, version_of, room_for_withdrawal, IsOffered, IsAppended, IsSnapshotOf, IsFirstUnranked, IsFirstDue, RankOppositely, IsKept, with_pool, with_given, with_kept};
 
-use crate::front::common_front;
 use crate::offer::Offer;
 use crate::points::{AnswerPoint, follow, last_question, latest};
 use crate::pool::mark;
+use answer_rows::common_front;
 use criteria_model::{Model, Vector};
 use decider::Snapshot;
 use question_queue::{Kept, Pool};

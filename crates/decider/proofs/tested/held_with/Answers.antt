@@ -1,5 +1,5 @@
-use Rattle.std.proofs.Common.{◌≡◌, ◌<◌, ℕ, ◌+◌, [], length, get_or, take, refl, ap, ◌∙◌, arith}
-use Rattle.decider.specs.Combining.{rows_in, rows_for}
+use Rattle.std.proofs.Common.{◌≡◌, ◌<◌, [], length, get_or, refl, ◌∙◌, arith}
+use Rattle.decider.specs.Combining.{rows_for}
 use Rattle.decider.proofs.AnswerRows.{listed_at}
 use Rattle.decider.proofs.Citing.{rows_for-length, rows_in-more}
 use Rattle.decider.proofs.tested.held_with.Goals as goal

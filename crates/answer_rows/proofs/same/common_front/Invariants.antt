@@ -1,6 +1,6 @@
 -- The answers so far are the same.
 use Rattle.std.proofs.Common.{◌≡◌, take}
-use Rattle.survey_state.proofs.front.common_front.Given as goal
+use Rattle.answer_rows.proofs.same.common_front.Given as goal
 
 abbrev pub invariant-loop-place : goal.invariant-loop-place
 invariant-loop-place l = take l.place l.one ≡ take l.place l.other
