@@ -1,5 +1,5 @@
 -- The events of a legal history have the forms that lines of a result may have.
-use Rattle.std.proofs.Common.{◌≡◌, ℕ, suc, ◌+◌, ◌<◌, ◌≤◌, Bool, true, false, if◌then◌else◌, List, [], ◌∷◌, length, take, drop, take-append-drop, get_or, Option, Some, None, ℤ, refl, inl, inr, arith, length-append, length-take}
+use Rattle.std.proofs.Common.{◌≡◌, ℕ, suc, ◌+◌, ◌<◌, ◌≤◌, Bool, true, false, if◌then◌else◌, List, [], ◌∷◌, length, take, drop, take-append-drop, get_or, Option, Some, None, ℤ, refl, sym, subst, inl, inr, arith, length-append, length-take}
 use Rattle.std.specs.Prelude.{fold}
 use Rattle.std.specs.List.{All, filter_map, cons_option, list_any}
 use Rattle.std.proofs.lemmas.Option.{slice_get-get_or}
@@ -20,8 +20,8 @@ use Rattle.survey_core.specs.Histories.{standing, standing_after, without_taken,
 use Rattle.survey_core.specs.Legal.{IsEvent, IsLegal}
 use Rattle.survey_core.proofs.ListSteps.{some_and, filtered_range}
 use Rattle.survey_core.proofs.NamedParts.{HasParts, named}
+use Rattle.survey_core.proofs.FollowLemmas.{legal_front}
 use Rattle.survey_core.proofs.ShortLemmas.{legal_is_short_lem}
-use Rattle.survey_replies.proofs.PlainLemmas.{legal_front}
 use Rattle.result_file.specs.declared.entries.Format.TheVariants.{Two}
 use Rattle.result_file.specs.Entries.{HasNumberForm, HasVectorForm, HasEntryForm}
 use Rattle.result_file.specs.Events.{pair_at_place, as_entry}
@@ -148,7 +148,8 @@ history_forms listed history list legal numbers =
 
 -- the first events of a legal history
 pub legal_first : (listed : Listed) (history : List Event) (count : ℕ) → IsLegal listed history → IsLegal listed (take count history)
-legal_first listed history count legal = legal_front listed (take count history) history (drop count history, take-append-drop count history) legal
+legal_first listed history count legal =
+    legal_front listed (take count history) (drop count history) (subst (λ (l : List Event). IsLegal listed l) (sym (take-append-drop count history)) legal)
 
 -- a right history in the second format makes a right file
 pub file_is_right : (listed : Listed) (history : List Event) → AreEvents Two (record { listed = listed; history = history }) → IsRightFile (result_of listed history)

@@ -2,8 +2,7 @@
 use Rattle.std.proofs.Common.{◌≡◌, ◌≢◌, ◌⊎◌, ℕ, zero, suc, ◌<◌, List, [], ◌∷◌, ◌++◌, length, map, refl, sym, ap, ap₂, subst, ◌∙◌, inl, inr, arith, append_assoc, append-nil, length-append}
 use Rattle.std.specs.List.{All}
 use Rattle.std.proofs.Math.Seq.{take-append_seam}
-use Rattle.std.proofs.lemmas.Option.{slice_get_within}
-use Rattle.std.proofs.lemmas.List.{map_push, take-append-le}
+use Rattle.std.proofs.lemmas.List.{map_push}
 use Rattle.std.proofs.Math.ListN.{get_or-append}
 use Rattle.std.proofs.Math.Seq.{get_or-append_seam}
 use Rattle.criteria_model.specs.Criteria.{Criteria, IsModel}
@@ -12,7 +11,8 @@ use Rattle.pair_enumeration.proofs.OneList.{one_listed}
 use Rattle.survey_core.specs.declared.events.Event.{Event}
 use Rattle.survey_core.specs.Legal.{MayFollow, IsLegal}
 use Rattle.survey_core.specs.Recorded.{Recorded}
-use Rattle.survey_core.proofs.ListSteps.{slice_get-append, slice_get-last}
+use Rattle.survey_core.proofs.ListSteps.{slice_get-last}
+use Rattle.survey_core.proofs.FollowLemmas.{legal_front}
 use Rattle.survey_core.proofs.ShortLemmas.{legal_is_short_lem}
 use Rattle.survey_core.specs.declared.limits.TheConstants.{MAX_EVENTS}
 use Rattle.result_file.specs.declared.entries.Format.{Format}
@@ -158,13 +158,6 @@ last_holds : {X : Type 0} (P : X → Type 0) (xs : List X) (x : X) → All P (xs
 last_holds P xs x h =
     subst P (get_or-append_seam xs x [] x) (h (length xs) x (omega (arith, length-append xs (x ∷ []))))
 
-front_legal : (listed : Listed) (before : List Event) (event : Event) → IsLegal listed (before ++ event ∷ []) → IsLegal listed before
-front_legal listed before event legal =
-    λ k earlier at.
-    let within : k < length before = slice_get_within before k earlier at in
-    let here = legal k earlier (slice_get-append before (event ∷ []) k earlier at) in
-    (here.0, subst (λ (events : List Event). MayFollow listed events earlier) (take-append-le k before (event ∷ []) (omega arith)) here.1)
-
 last_legal : (listed : Listed) (before : List Event) (event : Event) → IsLegal listed (before ++ event ∷ []) → MayFollow listed before event
 last_legal listed before event legal =
     let here = legal (length before) event (slice_get-last before event) in
@@ -179,7 +172,7 @@ front_events format survey before event whole h =
     let P : Event → Type 0 = λ e. HasEntryForm format survey.listed.criteria (as_entry survey.listed.classes e) in
     record {
       listed = h.listed;
-      legal = front_legal survey.listed before event (subst (λ (events : List Event). IsLegal survey.listed events) whole h.legal);
+      legal = legal_front survey.listed before (event ∷ []) (subst (λ (events : List Event). IsLegal survey.listed events) whole h.legal);
       forms = front_holds P before event (subst (λ (events : List Event). All P events) whole h.forms);
     }
 

@@ -1,5 +1,5 @@
 -- What a line of a session asks of the survey, and what is replied to it.
-use Rattle.std.specs.Prelude.{◌≡◌, ℕ, Option, Some, None}
+use Rattle.std.specs.Prelude.{◌≡◌, ℕ, Option, Some}
 use Rattle.pair_enumeration.specs.Listed.{Listed}
 use Rattle.json_forms.specs.declared.messages.Message.{Message}
 use Rattle.json_forms.specs.declared.messages.Message.TheVariants as message

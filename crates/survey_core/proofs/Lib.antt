@@ -12,4 +12,5 @@ pub mod RankingLemmas
 pub mod NextTables
 pub mod NextKept
 pub mod PartLemmas
+pub mod FollowLemmas
 pub mod ShortLemmas

@@ -11,7 +11,7 @@ use Rattle.survey_core.specs.declared.limits.TheConstants.{MAX_EVENTS}
 use Rattle.survey_core.specs.Marked.{Table, unmarked, IsMark, is_answer_up_to, IsTableOf, KeepsHistory}
 use Rattle.survey_core.proofs.TableLemmas.{count_none}
 
-replicate_at : {X : Type 0} (n : ℕ) (x : X) (k : ℕ) (y : X) → slice_get (replicate n x) k ≡ Some y → x ≡ y
+pub replicate_at : {X : Type 0} (n : ℕ) (x : X) (k : ℕ) (y : X) → slice_get (replicate n x) k ≡ Some y → x ≡ y
 replicate_at zero x k y h = absurd (none-some y h)
 replicate_at (suc n) x zero y h = same_Some x y h
 replicate_at (suc n) x (suc k) y h = replicate_at n x k y h

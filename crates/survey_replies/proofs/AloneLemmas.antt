@@ -10,7 +10,7 @@ use Rattle.survey_replies.specs.JournalLaws.{DeskRun, WorkerRun, MakesJournal}
 use Rattle.survey_replies.proofs.CallLemmas.{prefix_get}
 use Rattle.survey_replies.specs.PlainLaws.{IsAlone, OneDeskIsPlain}
 use Rattle.survey_replies.proofs.JournalLemmas.{times_both, place_within, workers_none}
-use Rattle.survey_replies.proofs.PlainLemmas.{legal_front, alone_is_plain_lem}
+use Rattle.survey_replies.proofs.PlainLemmas.{legal_prefix, alone_is_plain_lem}
 
 one_desk_alone : (listed : Listed) (journal : List Event) (run : DeskRun) (workers : List WorkerRun) → MakesJournal listed journal (run ∷ []) workers
     → IsPrefix run.seen.journal journal → IsAlone run.seen
@@ -25,5 +25,5 @@ one_desk_alone listed journal run workers makes prefix place event at none =
 pub one_desk_is_plain_lem : OneDeskIsPlain
 one_desk_is_plain_lem listed journal run workers model legal makes =
     let each = All-Each (λ run. Conversation listed run.desk unseen run.seen run.exchanges × IsPrefix run.seen.journal journal) (run ∷ []) makes.conversations in
-    alone_is_plain_lem listed run.desk run.seen run.exchanges model (legal_front listed run.seen.journal journal each.0.1 legal) each.0.0
+    alone_is_plain_lem listed run.desk run.seen run.exchanges model (legal_prefix listed run.seen.journal journal each.0.1 legal) each.0.0
     (one_desk_alone listed journal run workers makes each.0.1)

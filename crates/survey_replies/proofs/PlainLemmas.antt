@@ -14,6 +14,7 @@ use Rattle.survey_core.specs.Histories.{issued, place_of, is_eliminated}
 use Rattle.survey_core.specs.Legal.{MayFollow, IsLegal}
 use Rattle.survey_core.proofs.ListSteps.{Each, Each-range, Each-append, Each-map, slice_get-take, some_and, take_whole}
 use Rattle.survey_core.proofs.SoundLemmas.{IsSound, sound_history}
+use Rattle.survey_core.proofs.FollowLemmas.{legal_front}
 use Rattle.survey_core.proofs.RankingLemmas.{answers_are_satisfiable_lem}
 use Rattle.survey_replies.specs.Requests.{Request}
 use Rattle.survey_replies.specs.Requests as request
@@ -93,13 +94,8 @@ turn_plain listed desk history request.look (outcome.look at) events sound by_la
 turn_plain listed desk history _ _ events sound by_law appends = absurd by_law
 
 -- ---- what stands between the replies
-pub legal_front : (listed : Listed) (front journal : List Event) → IsPrefix front journal → IsLegal listed journal → IsLegal listed front
-legal_front listed front journal (more, same) legal =
-    λ k event at.
-    (let h = legal k event (prefix_get front journal k event (more, same) at) in
-    let within : k < length front = place_within front k event at in
-    let shorter : take k journal ≡ take k front = ap (λ (l : List Event). take k l) (sym same) ∙ take-append-le k front more (omega arith) in
-    (h.0, subst (λ (l : List Event). MayFollow listed l event) shorter h.1))
+pub legal_prefix : (listed : Listed) (front journal : List Event) → IsPrefix front journal → IsLegal listed journal → IsLegal listed front
+legal_prefix listed front journal (more, same) legal = legal_front listed front more (subst (λ (l : List Event). IsLegal listed l) (sym same) legal)
 
 abbrev IsEliminate : Event → Type 0
 IsEliminate event = (worker : ℕ) × IsEliminateOf worker event
@@ -200,9 +196,9 @@ runs_plain listed desk before after (exchange ∷ exchanges) model legal (middle
     let read : List Event = read_by middle.journal reply in
     let last : List Event = slice_range middle.journal (at_of reply) (end_of middle.journal reply) in
     let longer : IsPrefix middle.journal after.journal = conversation_longer listed desk middle after exchanges rest in
-    let legal_middle : IsLegal listed middle.journal = legal_front listed middle.journal after.journal longer legal in
+    let legal_middle : IsLegal listed middle.journal = legal_prefix listed middle.journal after.journal longer legal in
     let legal_read : IsLegal listed read =
-    legal_front listed read middle.journal (drop (at_of reply) middle.journal, take-append-drop (at_of reply) middle.journal) legal_middle in
+    legal_prefix listed read middle.journal (drop (at_of reply) middle.journal, take-append-drop (at_of reply) middle.journal) legal_middle in
     let same : plain_of read ≡ plain_of before.journal = quiet listed desk before middle after exchange exchanges turns rest covered in
     let rests : interview listed read ≡ plain_interview listed (plain_of before.journal) = sym (same_interview listed read) ∙ ap (plain_interview listed) same in
     let behind : last ≡ drop (at_of reply) middle.journal =

@@ -38,7 +38,7 @@ use Rattle.survey_state.specs.declared.findings.Found.{Found}
 use Rattle.survey_state.specs.States.{changes_answers, version_of, IsKept, HasAnswersOf}
 use Rattle.survey_state.specs.Sought.{IsSought}
 use Rattle.survey_state.specs.Findings.{OpensByFirst, IsCertified, IsFinding, IsReadyFor, IsLook, LooksAt, IsFindingOf, IsFoundIn, IsFresh, IsCertifiedClass, MeetsWithClass, KeepsTools}
-use Rattle.survey_state.proofs.RoomLemmas.{legal_front}
+use Rattle.survey_core.proofs.FollowLemmas.{legal_front}
 
 -- ---- the answers, after events that change none
 same_after : (listed : Listed) (history : List Event) → IsSound listed history → (event : Event) → changes_answers event ≡ false

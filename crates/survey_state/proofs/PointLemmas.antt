@@ -21,7 +21,7 @@ use Rattle.survey_core.proofs.SoundLemmas.{sound_history, answers_count}
 use Rattle.survey_replies.specs.Interview.{answered_question, answered}
 use Rattle.survey_state.specs.declared.points.AnswerPoint.{AnswerPoint}
 use Rattle.survey_state.specs.States.{answer_point, points_after}
-use Rattle.survey_state.proofs.RoomLemmas.{few_committed}
+use Rattle.survey_core.proofs.FollowLemmas.{few_committed}
 
 -- the points of the standing Commits
 abbrev pub points_in : List Event → List AnswerPoint

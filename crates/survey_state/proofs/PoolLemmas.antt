@@ -1,5 +1,5 @@
 -- What a `State` keeps of the classes, after one more event.
-use Rattle.std.proofs.Common.{◌≡◌, ◌≢◌, ◌⊎◌, ℕ, zero, suc, ◌+◌, ◌-◌, ◌<◌, ◌≤◌, min, Bool, true, false, ◌||◌, ◌==◌, not, IsTrue, IsFalse, List, [], ◌∷◌, ◌++◌, length, map, take, replicate, All, Option, Some, None, slice_get, slice_set, IfSome, MatchOption, ℤ, length-take, length-append, append-nil, refl, ap, ap₂, sym, subst, ◌∙◌, inl, inr, arith}
+use Rattle.std.proofs.Common.{◌≡◌, ◌≢◌, ◌⊎◌, ℕ, ◌+◌, ◌-◌, ◌<◌, ◌≤◌, min, Bool, true, false, ◌||◌, ◌==◌, not, IsTrue, IsFalse, List, [], ◌∷◌, ◌++◌, length, map, take, All, Option, Some, None, slice_get, slice_set, IfSome, MatchOption, ℤ, length-take, length-append, append-nil, refl, ap, ap₂, sym, subst, ◌∙◌, inl, inr, arith}
 use Rattle.std.specs.Option.{option_map, option_map_or, option_and_then}
 use Rattle.std.specs.List.{cons_option, position}
 use Rattle.std.proofs.lemmas.Bool.{eq-eqb}
@@ -26,6 +26,7 @@ use Rattle.survey_core.proofs.ListSteps.{filtered_range, slice_get_inside}
 use Rattle.survey_core.proofs.StandingLemmas.{standing-push}
 use Rattle.survey_core.proofs.SoundLemmas.{IsSound, sound_history, committed-push, committed-issue, committed-withdraw, issued-same}
 use Rattle.survey_core.proofs.NamedParts.{MayEliminate, MayIssue, MayCommit, MayWithdraw, named}
+use Rattle.survey_core.proofs.NewLemmas.{replicate_at}
 use Rattle.survey_core.proofs.NextTables.{each_set, each_mapped, map_set, other_no, or_nothing, or_something}
 use Rattle.survey_state.specs.States.{given_at, IsFirstUnranked, IsFirstDue, IsKept, IsMarkOf, KeepsPool, IsLastEvent, AreMarkedUpTo, as_said}
 use Rattle.survey_state.proofs.RankedLemmas.{ranked-push, asked-same, ranked-issue, asked-issue}
@@ -331,18 +332,13 @@ either_by : {journal : List Event} {place : ℕ} → ((mark : Mark) × IsMarkOf 
 either_by h = elim (some_of h.0.ranked h.0.asked h.2) [ inl ranked ↦ inl (sym h.1.ranked ∙ ranked) | inr asked ↦ inr (sym h.1.asked ∙ asked) ]
 
 -- ---- a new pool, of no events
-at_replicate : {X : Type 0} (n : ℕ) (x : X) (k : ℕ) (y : X) → slice_get (replicate n x) k ≡ Some y → x ≡ y
-at_replicate zero x k y at = absurd (none-some y at)
-at_replicate (suc n) x zero y at = same_Some x y at
-at_replicate (suc n) x (suc k) y at = at_replicate n x k y at
-
 pub new_kept : (listed : Listed) (count : ℕ) → count ≡ length listed.classes → KeepsPool listed [] (new_pool count)
 new_kept listed count size = record {
   len = length-replicate count new_mark ∙ size;
   each_mark = λ k mark at.
-      subst (λ (m : Mark). IsMarkOf [] (k + 1) m) (at_replicate count new_mark k mark at) (record { ranked = refl; asked = refl });
+      subst (λ (m : Mark). IsMarkOf [] (k + 1) m) (replicate_at count new_mark k mark at) (record { ranked = refl; asked = refl });
   each_kept = λ k latest at.
-      subst (λ (o : Option Kept). IfSome o (λ kept. IsKept listed (committed listed.classes []) (k + 1) kept)) (at_replicate count None k latest at) tt;
+      subst (λ (o : Option Kept). IfSome o (λ kept. IsKept listed (committed listed.classes []) (k + 1) kept)) (replicate_at count None k latest at) tt;
 }
 
 -- ---- what a `State` answers from it

@@ -6,7 +6,7 @@ use Rattle.survey_core.specs.declared.limits.TheConstants.{MAX_EVENTS}
 use Rattle.survey_core.specs.Histories.{class_at, committed}
 use Rattle.survey_core.specs.Legal.{IsLegal}
 use Rattle.survey_core.proofs.ReadLemmas.{answers_fit}
-use Rattle.survey_state.proofs.RoomLemmas.{few_committed}
+use Rattle.survey_core.proofs.FollowLemmas.{few_committed}
 use Rattle.survey_state.proofs.FindingLemmas.{kept_look}
 use Rattle.survey_state.proofs.calls.look_at.Goals as goal
 
