@@ -1,3 +1,4 @@
+mod loading;
 mod results;
 
 use crate::command::plain_command;

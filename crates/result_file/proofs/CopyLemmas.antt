@@ -18,17 +18,20 @@ use Rattle.result_file.specs.declared.entries.Format.{Format}
 use Rattle.result_file.specs.declared.entries.Format.TheVariants.{One, Two}
 use Rattle.result_file.specs.declared.kinds.Kind.{Kind}
 use Rattle.result_file.specs.declared.kinds.Kind.TheVariants as kinds
+use Rattle.result_file.specs.declared.progress.Progress.{Progress}
 use Rattle.result_file.specs.declared.progress.Progress.TheVariants as reached
 use Rattle.result_file.specs.declared.verdicts.Checked.{Checked}
 use Rattle.result_file.specs.declared.verdicts.Checked.TheVariants.{Valid, ValidComplete, Invalid, Unfinished, ReadFault, NoMemory}
+use Rattle.result_file.specs.declared.verdicts.Part.{Part}
 use Rattle.result_file.specs.declared.verdicts.Part.TheVariants.{Form}
-use Rattle.result_file.specs.Checked.{Stage, blank, headed, begun, ended, Fails, IsFileOf, IsChecked, IsToldChecked}
+use Rattle.result_file.specs.Checked.{Stage, blank, headed, begun, ended, HasEnded, Fails, IsFileOf, IsChecked, IsToldChecked}
 use Rattle.result_file.specs.Contents.{Content, of_claims, of_events, lines_of}
 use Rattle.result_file.specs.Entries.{HasEntryForm}
 use Rattle.result_file.specs.Events.{event_line}
 use Rattle.result_file.specs.Files.{file_text, result_of}
+use Rattle.result_file.specs.Loaded.{IsStopped, IsNoResult}
 use Rattle.result_file.specs.Migrated.{BeginsClaims, IsAccepted, IsRefused, IsCopyOf, IsMigrated, ended_piece, HasCopied}
-use Rattle.result_file.specs.Progress.{IsAtStage, EndsAs, HasCome, EndsWithPiece}
+use Rattle.result_file.specs.Progress.{IsAtStage, EndsAs, HasCome, HasEndLine, StopsAs, StopsThere, EndsWithPiece}
 use Rattle.result_file.specs.RightEvents.{AreEvents}
 use Rattle.result_file.specs.Texts.{heading, end_line, model_line}
 use Rattle.result_file.proofs.FormLemmas.{file_is_right}
@@ -51,12 +54,51 @@ blank_come before = record {
   number = refl;
 }
 
-first_refused : (before : Option (List ℕ)) → IsToldChecked before (Invalid 1 Form) → IfSome before (λ text. IsRefused text (Invalid 1 Form))
-first_refused None checked = tt
-first_refused (Some text) checked = (λ claims. refl, λ no_claims. checked)
+-- a check that stops before the end line
+stops_short : (progress : Progress) (bytes : List ℕ) (verdict : Checked) → ¬ HasEndLine progress → ¬ IsAccepted verdict → StopsAs progress bytes verdict
+    → IsStopped bytes verdict
+stops_short progress bytes Valid early other h = other tt
+stops_short progress bytes ValidComplete early other h = other tt
+stops_short progress bytes (Invalid line part) early other h = record {
+  lines = h.lines;
+  rest = h.rest;
+  stage = h.stage;
+  split = h.split;
+  says = h.says;
+  number = h.number;
+  next = (λ ended. early (end_line_came progress h.stage ended h.next.0), h.next.1);
+}
+  where
+    end_line_came : (progress : Progress) (stage : Stage) → HasEnded stage → IsAtStage progress stage → HasEndLine progress
+    end_line_came reached.Blank (ended content) has stands = absurd stands
+    end_line_came (reached.Headed kind) (ended content) has stands = absurd stands
+    end_line_came (reached.Begun body) (ended content) has stands = absurd stands
+    end_line_came (reached.Ended body) stage has stands = tt
+    end_line_came progress blank has stands = absurd has
+    end_line_came progress (headed kind) has stands = absurd has
+    end_line_came progress (begun content) has stands = absurd has
+stops_short progress bytes (Unfinished line) early other h = h
+stops_short progress bytes ReadFault early other h = tt
+stops_short progress bytes NoMemory early other h = tt
 
-pub long_refused : (before : Option (List ℕ)) → IsToldChecked before (Invalid 1 Form) → IfSome before (λ text. IsRefused text (Invalid 1 Form))
-long_refused before checked = first_refused before checked
+pub not_result : (progress : Progress) (bytes : List ℕ) (verdict : Checked) → ¬ HasEndLine progress → ¬ IsAccepted verdict → ¬ BeginsClaims bytes
+    → StopsAs progress bytes verdict → IsNoResult bytes verdict
+not_result progress bytes Valid early other no_claims h = other tt
+not_result progress bytes ValidComplete early other no_claims h = other tt
+not_result progress bytes (Invalid line part) early other no_claims h =
+    (λ claims. absurd (no_claims claims), λ _. stops_short progress bytes (Invalid line part) early other h)
+not_result progress bytes (Unfinished line) early other no_claims h = (no_claims, stops_short progress bytes (Unfinished line) early other h)
+not_result progress bytes ReadFault early other no_claims h = tt
+not_result progress bytes NoMemory early other no_claims h = tt
+
+first_refused : (before : Option (List ℕ)) → StopsThere reached.Blank 1 before (Invalid 1 Form) → IfSome before (λ text. IsNoResult text (Invalid 1 Form))
+first_refused None there = tt
+first_refused (Some text) there =
+    (λ claims. refl, λ no_claims. stops_short reached.Blank text (Invalid 1 Form) (λ no. no) (λ no. no) there.stops)
+
+pub long_refused : (before : Option (List ℕ)) → StopsThere reached.Blank 1 before (Invalid 1 Form)
+    → IfSome before (λ text. IsNoResult text (Invalid 1 Form))
+long_refused before there = first_refused before there
 
 fails_blank : (line : List ℕ) → ((kind : Kind) → line ≢ heading kind) → (stage : Stage) → IsAtStage reached.Blank stage → Fails stage line Form
 fails_blank line other blank stands = other
@@ -72,15 +114,17 @@ no_heading bytes rest line whole no_claims other kinds.Claims is =
 no_heading bytes rest line whole no_claims other (kinds.Result format) is = other format is
 
 pub other_refused : (before now : Option (List ℕ)) (new : LinesView) → GivesLine new before now → length new.line ≤ 4096
-    → ((format : Format) → new.line ≢ heading (kinds.Result format)) → IfSome before (λ text. IsRefused text (Invalid 1 Form))
+    → ((format : Format) → new.line ≢ heading (kinds.Result format)) → IfSome before (λ text. IsNoResult text (Invalid 1 Form))
 other_refused before now new g short other =
-    for_told before (λ text. IsRefused text (Invalid 1 Form)) (λ bytes told.
+    for_told before (λ text. IsNoResult text (Invalid 1 Form)) (λ bytes told.
     let t = told_now before now (new.line ++ line_end ∷ []) bytes g.told told in (
       λ claims. refl,
       λ no_claims.
-          subst (λ (text : Option (List ℕ)). IsToldChecked text (Invalid 1 Form)) told
-          (line_checked before before now 1 reached.Blank new Form (blank_come before) g short
-          (fails_blank new.line (no_heading bytes t.0 new.line t.2 no_claims other))),
+          let there : StopsThere reached.Blank 1 before (Invalid 1 Form) =
+          line_checked before before now 1 reached.Blank new Form (blank_come before) g short
+          (fails_blank new.line (no_heading bytes t.0 new.line t.2 no_claims other)) in
+          stops_short reached.Blank bytes (Invalid 1 Form) (λ no. no) (λ no. no)
+          (subst (λ (text : Option (List ℕ)). IfSome text (λ b. StopsAs reached.Blank b (Invalid 1 Form))) told there.stops),
     ))
 
 no_line_end : (piece : List ℕ) → HasNoLineEnd piece → ¬ BeginsClaims piece
@@ -95,24 +139,48 @@ open_blank piece (begun content) stands = absurd stands
 open_blank piece (ended content) stands = absurd stands
 
 cut_refused : (before now : Option (List ℕ)) (piece : List ℕ) → before ≡ prepend_known piece now → IsAtEnd now → HasNoLineEnd piece
-    → IsToldChecked before (Unfinished 1) → IfSome before (λ text. IsRefused text (Unfinished 1))
-cut_refused before now piece told at_end unbroken checked =
-    for_told before (λ text. IsRefused text (Unfinished 1)) (λ bytes is.
+    → StopsThere reached.Blank 1 before (Unfinished 1) → IfSome before (λ text. IsNoResult text (Unfinished 1))
+cut_refused before now piece told at_end unbroken there =
+    for_told before (λ text. IsNoResult text (Unfinished 1)) (λ bytes is.
     let t = told_now before now piece bytes told is in
     let none : t.0 ≡ [] = subst (λ (left : Option (List ℕ)). IsAtEnd left) t.1 at_end in
-    let same : bytes ≡ piece = t.2 ∙ ap (λ (rest : List ℕ). piece ++ rest) none ∙ append-nil piece in
-    (no_line_end bytes (subst HasNoLineEnd (sym same) unbroken), subst (λ (text : Option (List ℕ)). IsToldChecked text (Unfinished 1)) is checked))
+    let same : bytes ≡ piece = t.2 ∙ ap (λ (rest : List ℕ). piece ++ rest) none ∙ append-nil piece in (
+      no_line_end bytes (subst HasNoLineEnd (sym same) unbroken),
+      subst (λ (text : Option (List ℕ)). IfSome text (λ b. StopsAs reached.Blank b (Unfinished 1))) is there.stops,
+    ))
 
 pub piece_refused : (before now : Option (List ℕ)) (new : LinesView) → new.longest ≡ 4096 → GivesPiece new before now
-    → IfSome before (λ text. IsRefused text (Unfinished 1))
+    → IfSome before (λ text. IsNoResult text (Unfinished 1))
 piece_refused before now new longest g =
     cut_refused before now new.line g.told g.ended g.unbroken
     (end_with_piece before before now 1 reached.Blank new (Unfinished 1) (blank_come before) g longest (open_blank new.line))
 
-pub end_refused : (before now : Option (List ℕ)) (new : LinesView) → GivesEnd new before now → IfSome before (λ text. IsRefused text (Unfinished 1))
+pub end_refused : (before now : Option (List ℕ)) (new : LinesView) → GivesEnd new before now → IfSome before (λ text. IsNoResult text (Unfinished 1))
 end_refused before now new g =
     cut_refused before now [] (sym g.same ∙ sym (prepend_known-nil now)) g.ended (All-nil _)
     (end_without_piece before before now 1 reached.Blank new (Unfinished 1) (blank_come before) g (open_blank new.line))
+
+-- what is no result is refused
+pub no_result_refused : (before : Option (List ℕ)) (verdict : Checked) → IfSome before (λ text. IsNoResult text verdict)
+    → IfSome before (λ text. IsRefused text verdict)
+no_result_refused None verdict h = tt
+no_result_refused (Some text) Valid h = h
+no_result_refused (Some text) ValidComplete h = h
+no_result_refused (Some text) (Invalid line part) h = (h.0, λ no_claims. as_checked line part (h.1 no_claims))
+  where
+    as_checked : (line : ℕ) (part : Part) → IsStopped text (Invalid line part) → IsChecked text (Invalid line part)
+    as_checked line part stopped = record {
+      lines = stopped.lines;
+      rest = stopped.rest;
+      stage = stopped.stage;
+      split = stopped.split;
+      says = stopped.says;
+      number = stopped.number;
+      next = stopped.next.1;
+    }
+no_result_refused (Some text) (Unfinished line) h = h
+no_result_refused (Some text) ReadFault h = tt
+no_result_refused (Some text) NoMemory h = tt
 
 -- ---- the lines after it
 
@@ -245,7 +313,7 @@ other_byte : (one other : ℕ) → one ≡ 114 → other ≡ 99 → one ≡ othe
 other_byte one other is other_is same = omega (arith, is, other_is, same)
 
 -- the headings differ in their ninth byte
-begins_result : (format : Format) (rest text : List ℕ) → text ≡ (heading (kinds.Result format) ++ line_end ∷ []) ++ rest → ¬ BeginsClaims text
+pub begins_result : (format : Format) (rest text : List ℕ) → text ≡ (heading (kinds.Result format) ++ line_end ∷ []) ++ rest → ¬ BeginsClaims text
 begins_result One rest text is claims =
     other_byte (get_or ((heading (kinds.Result One) ++ line_end ∷ []) ++ rest) 8 0) (get_or (heading kinds.Claims ++ line_end ∷ claims.0) 8 0) refl refl
     (ap (λ (bytes : List ℕ). get_or bytes 8 0) (sym is ∙ claims.1))
@@ -259,16 +327,18 @@ memory_refused (Some bytes) = tt
 
 pub finished : (format : Format) (text first mid left : Option (List ℕ)) (result : Result (Vec ℕ Global) Checked) (verdict : Checked) (copy piece : List ℕ)
     → text ≡ prepend_known (heading (kinds.Result format) ++ line_end ∷ []) first → HasCopied first mid copy
-    → (IsAccepted verdict → EndsWithPiece piece mid left) → IsToldChecked text verdict
+    → (progress next : Progress) (now : Option (List ℕ)) → (IsAccepted verdict → EndsWithPiece progress next verdict piece mid now left) → IsToldChecked text verdict
     → IfOk result (λ done. IsAccepted verdict × (done.items ≡ copy ++ ended_piece piece))
     → IfErr result (λ failed. ((failed ≡ NoMemory) × IsAccepted verdict) ⊎ ((failed ≡ verdict) × (¬ IsAccepted verdict)))
     → IsMigrated text result
-finished format text first mid left (Ok done) verdict copy piece told h ends checked copied refused =
+finished format text first mid left (Ok done) verdict copy piece told h progress next now ends checked copied refused =
     for_told text (λ bytes. IsCopyOf bytes done.items) (λ bytes is.
     let t = told_now text first (heading (kinds.Result format) ++ line_end ∷ []) bytes told is in
     let u = told_now first mid (unlines h.lines) t.0 h.took t.1 in
     let end = ends copied.0 in
-    let last : u.0 ≡ piece = subst (λ (o : Option (List ℕ)). IfSome o (λ bytes. bytes ≡ piece)) u.1 end.told in
+    let v = told_now mid now piece u.0 end.told u.1 in
+    let none : v.0 ≡ [] = subst (λ (o : Option (List ℕ)). IsAtEnd o) v.1 end.none_ahead in
+    let last : u.0 ≡ piece = v.2 ∙ ap (λ (p : List ℕ). piece ++ p) none ∙ append-nil piece in
     let whole : bytes ≡ unlines (heading (kinds.Result format) ∷ h.lines) ++ piece =
     t.2 ∙ ap (λ (rest : List ℕ). (heading (kinds.Result format) ++ line_end ∷ []) ++ rest) (u.2 ∙ ap (λ (rest : List ℕ). unlines h.lines ++ rest) last)
     ∙ simp (append_assoc) refl in
@@ -281,7 +351,7 @@ finished format text first mid left (Ok done) verdict copy piece told h ends che
       copied = copied.1 ∙ ap (λ (front : List ℕ). front ++ ended_piece piece) h.copied ∙ same.copied;
       right = file_is_right same.survey.listed same.survey.history (in_second format same.survey same.file.right);
     })
-finished format text first mid left (Err failed) verdict copy piece told h ends checked copied refused =
+finished format text first mid left (Err failed) verdict copy piece told h progress next now ends checked copied refused =
     for_told text (λ bytes. IsRefused bytes failed) (λ bytes is.
     let t = told_now text first (heading (kinds.Result format) ++ line_end ∷ []) bytes told is in
     elim refused [
@@ -296,11 +366,11 @@ finished format text first mid left (Err failed) verdict copy piece told h ends 
 no_fault : (verdict : Checked) → IsAccepted verdict → verdict ≡ ReadFault → ⊥
 no_fault verdict accepted is = subst IsAccepted is accepted
 
-pub ended_by : (result : Result (Vec ℕ Global) Checked) (verdict : Checked) (copy piece : List ℕ) (mid left : Option (List ℕ))
-    → IfOk result (λ done. IsAccepted verdict × (done.items ≡ copy ++ ended_piece piece)) → (IsAccepted verdict → EndsWithPiece piece mid left)
-    → OnOk result (IsAtEnd left)
-ended_by (Ok done) verdict copy piece mid left copied ends = (ends copied.0).ended
-ended_by (Err failed) verdict copy piece mid left copied ends = tt
+pub ended_by : (result : Result (Vec ℕ Global) Checked) (verdict : Checked) (copy piece : List ℕ) (mid now left : Option (List ℕ))
+    (progress next : Progress) → IfOk result (λ done. IsAccepted verdict × (done.items ≡ copy ++ ended_piece piece))
+    → (IsAccepted verdict → EndsWithPiece progress next verdict piece mid now left) → OnOk result (IsAtEnd left)
+ended_by (Ok done) verdict copy piece mid now left progress next copied ends = (ends copied.0).ended
+ended_by (Err failed) verdict copy piece mid now left progress next copied ends = tt
 
 pub quiet_by : (result : Result (Vec ℕ Global) Checked) (verdict : Checked) (copy piece : List ℕ) (before now : ℕ)
     → IfOk result (λ done. IsAccepted verdict × (done.items ≡ copy ++ ended_piece piece)) → CountsFaults (verdict ≡ ReadFault) before now

@@ -4,6 +4,8 @@ pub mod OutLemmas
 pub mod FormLemmas
 pub mod JournalLemmas
 pub mod CopyLemmas
+pub mod PointLemmas
+pub mod LoadLemmas
 pub mod EliminationLaws
 pub mod ClaimLaws
 pub mod EntryLaws
@@ -20,5 +22,6 @@ pub mod EventOnce
 pub mod StepLaws
 pub mod FailLaws
 pub mod OneVerdict
+pub mod OneLoading
 pub mod FirstParts
 pub mod EachVerdict

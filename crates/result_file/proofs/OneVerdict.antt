@@ -55,22 +55,22 @@ lines_unbroken content h = lines_unbroken_by (length (lines_of content)) content
 -- ---- a stage at which a text stops
 
 -- the stage doesn't go on in the text that is left: no whole line that is fine comes next
-abbrev Stops : Stage → List ℕ → Type 0
+abbrev pub Stops : Stage → List ℕ → Type 0
 Stops stage rest = (line after : List ℕ) → IsFine stage line → HasNoLineEnd line → rest ≢ line ++ line_end ∷ after
 
 -- right lines of a text, and where they stop
-record StopsAt (text : List ℕ) : Type 0 where
-  lines : List (List ℕ)
-  rest : List ℕ
-  stage : Stage
-  split : Splits text lines rest
-  says : Says lines stage
-  stops : Stops stage rest
+pub record StopsAt (text : List ℕ) : Type 0 where
+  pub lines : List (List ℕ)
+  pub rest : List ℕ
+  pub stage : Stage
+  pub split : Splits text lines rest
+  pub says : Says lines stage
+  pub stops : Stops stage rest
 
-record AreSame (text : List ℕ) (one other : StopsAt text) : Type 0 where
-  lines : one.lines ≡ other.lines
-  rest : one.rest ≡ other.rest
-  stage : one.stage ≡ other.stage
+pub record AreSame (text : List ℕ) (one other : StopsAt text) : Type 0 where
+  pub lines : one.lines ≡ other.lines
+  pub rest : one.rest ≡ other.rest
+  pub stage : one.stage ≡ other.stage
 
 back_unbroken : (lines more : List (List ℕ)) → All HasNoLineEnd (lines ++ more) → All HasNoLineEnd more
 back_unbroken [] more h = h
@@ -100,7 +100,7 @@ same_if_on text one other goes =
     }
 
 -- the right lines of a text stop at one place
-stops_once : (text : List ℕ) (one other : StopsAt text) → AreSame text one other
+pub stops_once : (text : List ℕ) (one other : StopsAt text) → AreSame text one other
 stops_once text one other =
     elim (one_goes_on one.lines one.rest other.lines other.rest one.split.unbroken other.split.unbroken (sym one.split.whole ∙ other.split.whole)) [
       | inl goes ↦ same_if_on text one other goes
@@ -112,7 +112,7 @@ stops_once text one other =
 -- ---- what a verdict says of the place
 
 -- the file is whole there, and its content is such
-abbrev IsWhole : Stage → List ℕ → (Content → Type 0) → Type 0
+abbrev pub IsWhole : Stage → List ℕ → (Content → Type 0) → Type 0
 IsWhole (begun content) rest P = (rest ≡ end_line) × P content
 IsWhole (ended content) rest P = (rest ≡ []) × P content
 IsWhole _ rest P = ⊥
@@ -124,7 +124,7 @@ Ends (Invalid line part) number stage rest = (line ≡ number) × NextFails stag
 Ends (Unfinished line) number stage rest = (line ≡ number) × IsCut stage rest
 Ends _ number stage rest = ⊥
 
-no_line_end : (text line after : List ℕ) → HasNoLineEnd text → text ≢ line ++ line_end ∷ after
+pub no_line_end : (text line after : List ℕ) → HasNoLineEnd text → text ≢ line ++ line_end ∷ after
 no_line_end text line after unbroken is = HasNoLineEnd-not text unbroken (subst HasLineEnd (sym is) (HasLineEnd-line line after))
 
 -- a line that a text begins with, put together
@@ -137,10 +137,10 @@ whole_unbroken (headed kind) rest P h = absurd h
 whole_unbroken (begun content) rest P h = subst HasNoLineEnd (sym h.0) HasNoLineEnd-end_line
 whole_unbroken (ended content) rest P h = subst HasNoLineEnd (sym h.0) (λ k d within. absurd (omega arith))
 
-whole_stops : (stage : Stage) (rest : List ℕ) (P : Content → Type 0) → IsWhole stage rest P → Stops stage rest
+pub whole_stops : (stage : Stage) (rest : List ℕ) (P : Content → Type 0) → IsWhole stage rest P → Stops stage rest
 whole_stops stage rest P h = λ line after fine unbroken. no_line_end rest line after (whole_unbroken stage rest P h)
 
-next_stops : (stage : Stage) (rest : List ℕ) (part : Part) → NextFails stage rest part → Stops stage rest
+pub next_stops : (stage : Stage) (rest : List ℕ) (part : Part) → NextFails stage rest part → Stops stage rest
 next_stops stage rest part h = λ line after fine unbroken is.
     elim h [
       | inl long ↦
@@ -263,7 +263,7 @@ whole_not_over (headed kind) rest P h over some = h
 whole_not_over (begun content) rest P h over some = over
 whole_not_over (ended content) rest P h over some = some h.0
 
-whole_not_next : (stage : Stage) (rest : List ℕ) (P : Content → Type 0) (part : Part) → IsWhole stage rest P → ¬ NextFails stage rest part
+pub whole_not_next : (stage : Stage) (rest : List ℕ) (P : Content → Type 0) (part : Part) → IsWhole stage rest P → ¬ NextFails stage rest part
 whole_not_next stage rest P part h k =
     elim k [
       | inl long ↦ whole_not_long stage rest P h long.0
@@ -273,13 +273,13 @@ whole_not_next stage rest P part h k =
       ]
     ]
 
-whole_not_cut : (stage : Stage) (rest : List ℕ) (P : Content → Type 0) → IsWhole stage rest P → ¬ IsCut stage rest
+pub whole_not_cut : (stage : Stage) (rest : List ℕ) (P : Content → Type 0) → IsWhole stage rest P → ¬ IsCut stage rest
 whole_not_cut blank rest P h cut = h
 whole_not_cut (headed kind) rest P h cut = h
 whole_not_cut (begun content) rest P h cut = cut.2 h.0
 whole_not_cut (ended content) rest P h cut = cut.2
 
-over_not_open : (stage : Stage) (rest : List ℕ) → HasEnded stage → ¬ LeavesOpen stage rest
+pub over_not_open : (stage : Stage) (rest : List ℕ) → HasEnded stage → ¬ LeavesOpen stage rest
 over_not_open blank rest over leaves = over
 over_not_open (headed kind) rest over leaves = over
 over_not_open (begun content) rest over leaves = over

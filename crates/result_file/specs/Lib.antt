@@ -21,4 +21,7 @@ pub mod Verdicts
 pub mod Words
 pub mod Files
 pub mod Migrated
+pub mod LoadedResults
+pub mod Loaded
 pub mod Laws
+pub mod LoadLaws

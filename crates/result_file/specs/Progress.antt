@@ -7,8 +7,10 @@ use Rattle.result_file.specs.declared.progress.Progress.TheVariants as reached
 use Rattle.result_file.specs.declared.verdicts.Part.TheVariants.{Form}
 use Rattle.result_file.specs.declared.verdicts.Checked.{Checked}
 use Rattle.result_file.specs.declared.verdicts.Checked.TheVariants.{Valid, ValidComplete, Invalid, Unfinished, ReadFault, NoMemory}
+use Rattle.result_file.specs.declared.bodies.Body.TheVariants as bodies
 use Rattle.result_file.specs.Bodies.{Keeps, IsOfWhole}
-use Rattle.result_file.specs.Checked.{Stage, blank, headed, begun, ended, Says, HasEnded, LeavesOpen}
+use Rattle.result_file.specs.Checked.{Stage, blank, headed, begun, ended, Says, HasEnded, NextFails, LeavesOpen, ComesTo, IsChecked}
+use Rattle.result_file.specs.Kept.{KeptSurvey}
 use Rattle.result_file.specs.Texts.{end_line}
 
 -- the progress stands for this stage
@@ -51,8 +53,43 @@ pub record HasCome (text now : Option (List ℕ)) (line : ℕ) (progress : Progr
   pub stands : IsAtStage progress stage
   pub number : line ≡ length lines + 1
 
--- the text ahead was a piece of a line without its line end, or nothing, and all is read
-pub record EndsWithPiece (piece : List ℕ) (before left : Option (List ℕ)) : Type 0 where
+-- one more line came after those, and the progress stands for what they come to
+pub record ComesFurther (before : List (List ℕ)) (line : List ℕ) (text now : Option (List ℕ)) (number : ℕ) (progress : Progress) : Type 0 where
+  pub come : HasCome text now number progress
+  pub one_more : come.lines ≡ before ++ line ∷ []
+
+-- the verdict speaks of the line of this number, if it speaks of one
+abbrev pub IsAtLine : ℕ → Checked → Type 0
+IsAtLine number (Invalid line part) = line ≡ number
+IsAtLine number (Unfinished line) = line ≡ number
+IsAtLine number _ = Unit {0}
+
+-- the text deserves the verdict; where that is a wrong line, by what follows a stage that the progress stands for
+abbrev pub StopsAs : Progress → List ℕ → Checked → Type 0
+StopsAs progress text (Invalid line part) = ComesTo text line (λ stage rest. IsAtStage progress stage × NextFails stage rest part)
+StopsAs progress text verdict = IsChecked text verdict
+
+-- the check stops at the line of this number, with this verdict
+pub record StopsThere (progress : Progress) (number : ℕ) (text : Option (List ℕ)) (verdict : Checked) : Type 0 where
+  pub line : IsAtLine number verdict
+  pub stops : IfSome text (λ bytes. StopsAs progress bytes verdict)
+
+-- the text ahead was a piece of a line without its line end, or nothing, with which the file is whole; all is read
+pub record EndsWithPiece (old new : Progress) (verdict : Checked) (piece : List ℕ) (before now left : Option (List ℕ)) : Type 0 where
+  pub same : new ≡ old
+  pub whole : (stage : Stage) → IsAtStage old stage → EndsWhole stage piece verdict
   pub unbroken : HasNoLineEnd piece
-  pub told : IfSome before (λ text. text ≡ piece)
+  pub told : Takes before now piece
+  pub none_ahead : IsAtEnd now
   pub ended : IsAtEnd left
+
+-- the end line has come
+abbrev pub HasEndLine : Progress → Type 0
+HasEndLine (reached.Ended body) = Unit {0}
+HasEndLine _ = ⊥
+
+-- the progress is in a result, of which this is kept
+abbrev pub IsSurveyOf : Progress → KeptSurvey → Type 0
+IsSurveyOf (reached.Begun (bodies.Survey kept)) survey = kept ≡ survey
+IsSurveyOf (reached.Ended (bodies.Survey kept)) survey = kept ≡ survey
+IsSurveyOf _ survey = ⊥

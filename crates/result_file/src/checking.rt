@@ -4,7 +4,7 @@ ghost use Rattle.edges.specs.Lines.{GivesLine, ahead};
 ghost use Rattle.edges.specs.Told.{IsAtEnd};
 ghost use Rattle.result_file.specs.Checked.{IsToldChecked};
 ghost use Rattle.result_file.specs.Migrated.{IsAccepted};
-ghost use Rattle.result_file.specs.Progress.{HasCome, EndsWithPiece};
+ghost use Rattle.result_file.specs.Progress.{HasCome, ComesFurther, StopsThere, EndsWithPiece};
 ghost use Rattle.result_file.specs.Verdicts.{EndsInput};
 
 use crate::limits::MAX_LINE;
@@ -55,12 +55,13 @@ pub(crate) fn next_progress<S: Source>(
     number: u32,
 ) -> Result<(), Checked>
     requires { lines.old.longest ≡ MAX_LINE }
-    ensures next { OnOk result ((text : Option (List ℕ)) →
-        HasCome text (ahead lines.old (S.left source.old)) number progress.old → HasCome text (ahead lines.new (S.left source.new)) (number + 1) progress.new) }
+    ensures next { OnOk result ((text : Option (List ℕ)) (come : HasCome text (ahead lines.old (S.left source.old)) number progress.old) →
+        ComesFurther come.lines lines.new.line text (ahead lines.new (S.left source.new)) (number + 1) progress.new) }
     ensures verdict { IfErr result (λ verdict. (text : Option (List ℕ)) →
-        HasCome text (ahead lines.old (S.left source.old)) number progress.old → IsToldChecked text verdict) }
+        HasCome text (ahead lines.old (S.left source.old)) number progress.old → StopsThere progress.old number text verdict) }
     ensures line { OnOk result (GivesLine lines.new (ahead lines.old (S.left source.old)) (ahead lines.new (S.left source.new))) }
-    ensures piece { IfErr result (λ verdict. IsAccepted verdict → EndsWithPiece lines.new.line (ahead lines.old (S.left source.old)) (S.left source.new)) }
+    ensures piece { IfErr result (λ verdict. IsAccepted verdict →
+        EndsWithPiece progress.old progress.new verdict lines.new.line (ahead lines.old (S.left source.old)) (ahead lines.new (S.left source.new)) (S.left source.new)) }
     ensures quiet { OnOk result (S.faults source.new ≡ S.faults source.old) }
     ensures faults { IfErr result (λ verdict. CountsFaults (verdict ≡ Checked.ReadFault) (S.faults source.old) (S.faults source.new)) }
     ensures ended { IfErr result (λ verdict. EndsInput verdict (S.left source.new)) }

@@ -5,7 +5,9 @@ ghost use Rattle.edges.specs.Line.{line_end};
 ghost use Rattle.edges.specs.Lines.{ahead};
 ghost use Rattle.edges.specs.Told.{Takes, IsAtEnd};
 ghost use Rattle.result_file.specs.declared.kinds.Kind.TheVariants.{Result as ResultKind};
-ghost use Rattle.result_file.specs.Migrated.{IsAccepted, IsRefused, IsMigrated, ended_piece};
+ghost use Rattle.result_file.specs.Loaded.{IsNoResult};
+ghost use Rattle.result_file.specs.Migrated.{IsAccepted, IsMigrated, ended_piece};
+ghost use Rattle.result_file.specs.Progress.{IsAtLine};
 ghost use Rattle.result_file.specs.Texts.{heading};
 
 use crate::checking::next_progress;
@@ -57,10 +59,12 @@ fn migrate_lines<S: Source>(alloc: Global, lines: Lines, source: &mut S) -> Resu
 }
 
 /// Reads the first line of a result.
-fn read_heading<S: Source>(lines: &mut Lines, source: &mut S) -> Result<Format, Checked>
+pub(crate) fn read_heading<S: Source>(lines: &mut Lines, source: &mut S) -> Result<Format, Checked>
     requires { lines.old.longest ≡ MAX_LINE }
     ensures read { IfOk result (λ format. Takes (ahead lines.old (S.left source.old)) (ahead lines.new (S.left source.new)) (heading (ResultKind format) ++ line_end ∷ [])) }
-    ensures refused { IfErr result (λ verdict. IfSome (ahead lines.old (S.left source.old)) (λ text. IsRefused text verdict)) }
+    ensures refused { IfErr result (λ verdict. IfSome (ahead lines.old (S.left source.old)) (λ text. IsNoResult text verdict)) }
+    ensures line { IfErr result (λ verdict. IsAtLine 1 verdict) }
+    ensures failed { IfErr result (λ verdict. ¬ IsAccepted verdict) }
     ensures quiet { OnOk result (S.faults source.new ≡ S.faults source.old) }
     ensures faults { IfErr result (λ verdict. CountsFaults (verdict ≡ Checked.ReadFault) (S.faults source.old) (S.faults source.new)) }
     ensures longest { lines.new.longest ≡ lines.old.longest }

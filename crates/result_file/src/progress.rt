@@ -1,9 +1,10 @@
 //! How far the lines of a file have come.
-ghost use Rattle.std.specs.Prelude.{◌≡◌, ◌≢◌, ◌↔◌, ℕ, ◌≤◌, List, length, IsTrue, OnOk, IfOk, IfErr};
+ghost use Rattle.std.specs.Prelude.{◌≡◌, ◌≢◌, ◌↔◌, ℕ, ◌≤◌, List, length, IsTrue, MatchOption, OnOk, IfOk, IfErr};
 ghost use Rattle.result_file.specs.declared.kinds.Kind.{Kind as FileKind};
 ghost use Rattle.result_file.specs.Texts.{model_line, end_line};
 ghost use Rattle.result_file.specs.Checked.{Stage, headed, Says, Fails};
-ghost use Rattle.result_file.specs.Progress.{IsAtStage, GoesOn, EndsAs};
+ghost use Rattle.result_file.specs.Progress.{IsAtStage, GoesOn, EndsAs, HasEndLine, IsSurveyOf};
+ghost use Rattle.result_file.specs.Kept.{KeptSurvey};
 ghost use Rattle.result_file.specs.Stops.{StopsAt};
 
 use crate::bodies::Body;
@@ -11,6 +12,7 @@ use crate::kinds::{Kind, kind_of};
 use crate::limits::MAX_LINE;
 use crate::line_fields::model_of;
 use crate::stops::Stop;
+use crate::survey::Survey;
 use crate::verdicts::{Checked, Part};
 use criteria_model::Model;
 use std::alloc::Global;
@@ -98,6 +100,27 @@ impl Progress {
                 }
             }
             Progress::Blank | Progress::Headed(_) => Checked::Unfinished { line: number },
+        }
+    }
+
+    /// Whether the end line has come.
+    pub(crate) fn has_ended(&self) -> bool
+        ensures { IsTrue result ↔ HasEndLine self.now }
+    {
+        match self {
+            Progress::Ended(_) => true,
+            _ => false,
+        }
+    }
+
+    /// What is kept of a result, once its model line has come.
+    pub(crate) fn into_survey(self) -> Option<Survey>
+        ensures { MatchOption result ((survey : KeptSurvey) → ¬ IsSurveyOf self survey) (λ survey. IsSurveyOf self survey) }
+    {
+        match self {
+            Progress::Begun(Body::Survey(survey)) => Some(survey),
+            Progress::Ended(Body::Survey(survey)) => Some(survey),
+            _ => None,
         }
     }
 }

@@ -1,7 +1,9 @@
 //! The events of a result, one after the other.
 ghost use Rattle.std.specs.Prelude.{◌≡◌, ◌≢◌, ◌↔◌, ◌≤◌, length, OnOk, IfOk, IfErr, MatchOption, IsTrue};
 ghost use Rattle.survey_core.specs.declared.events.Event.{Event as SurveyEvent};
-ghost use Rattle.survey_core.specs.Laws.{RanksEachClass};
+ghost use Rattle.criteria_model.specs.Answers.{MeetsAll};
+ghost use Rattle.survey_core.specs.Histories.{committed};
+ghost use Rattle.survey_core.specs.Laws.{RanksEachClass, last_point};
 ghost use Rattle.result_file.specs.Checked.{begun};
 ghost use Rattle.result_file.specs.Stops.{StopsAt};
 ghost use Rattle.result_file.specs.Contents.{of_events};
@@ -13,9 +15,10 @@ ghost use Rattle.result_file.specs.Texts.{end_line};
 
 use crate::eliminations::Elimination;
 use crate::entries::{Entry, Format, entry_of};
+use crate::points::{follow, latest};
 use crate::stops::Stop;
 use crate::verdicts::Part;
-use criteria_model::Model;
+use criteria_model::{Model, Vector};
 use std::alloc::Global;
 use survey_core::{Core, Event, MAX_EVENTS};
 
@@ -28,14 +31,16 @@ pub(crate) struct Survey {
     increments: usize,
     // How many events came.
     count: u32,
+    // Those of the answers that stand, since a withdrawal brings an earlier one back; there is room for one a class.
+    points: Vec<Vector>,
 }
 
 impl std::marker::Model for Survey {
-    ghost use Rattle.std.specs.Prelude.{◌≡◌, ◌≤◌, length};
+    ghost use Rattle.std.specs.Prelude.{◌≡◌, ◌≤◌, length, vec_capacity};
     ghost use Rattle.criteria_model.specs.Worth.{increments as increments_of};
     ghost use Rattle.pair_enumeration.specs.Listed.{IsListed};
     ghost use Rattle.survey_core.specs.declared.limits.TheConstants.{MAX_EVENTS};
-    ghost use Rattle.result_file.specs.Kept.{KeptSurvey};
+    ghost use Rattle.result_file.specs.Kept.{KeptSurvey, standing_points};
 
     ghost Value = { KeptSurvey };
 
@@ -47,6 +52,8 @@ impl std::marker::Model for Survey {
       increments : s.increments ≡ increments_of s.core.listed.criteria.levels;
       count : s.count ≡ length s.core.history;
       few : s.count ≤ MAX_EVENTS;
+      points : s.points.items ≡ standing_points s.core.history;
+      room : length s.core.listed.classes ≤ vec_capacity s.points;
     } };
 }
 
@@ -59,12 +66,14 @@ impl Survey {
         let criteria = usize::from(model.criteria());
         let increments = usize::from(model.increments());
         let core = Core::new(alloc, &model)?;
+        let points = Vec::with_capacity(alloc, model.class_count() as usize)?;
         Ok(Survey {
             format,
             core,
             criteria,
             increments,
             count: 0,
+            points,
         })
     }
 
@@ -87,6 +96,7 @@ impl Survey {
             return Err(Stop::Wrong(Part::from(broken)));
         }
         self.core.apply(&event);
+        follow(&mut self.points, &event);
         self.count += 1;
         Ok(())
     }
@@ -96,6 +106,28 @@ impl Survey {
         ensures { IsTrue result ↔ RanksEachClass self.now.survey.listed self.now.survey.history }
     {
         self.core.all_ranked()
+    }
+
+    /// What the events come to.
+    pub(crate) fn core(&self) -> &Core
+        ensures { result.now ≡ self.now.survey }
+    {
+        &self.core
+    }
+
+    /// What the events come to.
+    pub(crate) fn into_core(self) -> Core
+        ensures { result ≡ self.survey }
+    {
+        self.core
+    }
+
+    /// The point of the last answer that stands, or all ones where none does.
+    pub(crate) fn point(&self) -> Vector
+        ensures value { result ≡ last_point self.now.survey.listed.criteria.levels self.now.survey.history }
+        ensures meets { MeetsAll self.now.survey.listed.criteria.levels (committed self.now.survey.listed.classes self.now.survey.history) result }
+    {
+        latest(self.points.as_slice(), &self.core.model())
     }
 }
 

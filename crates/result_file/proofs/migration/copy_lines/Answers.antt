@@ -1,6 +1,6 @@
 use Rattle.std.proofs.Common.{arith, refl, ◌∙◌}
 use Rattle.result_file.proofs.CopyLemmas.{head_come, copied_none, copied_line, finished, quiet_by, faults_by, memory_faults}
-use Rattle.result_file.proofs.VerdictLaws.{few_come}
+use Rattle.result_file.proofs.VerdictLaws.{few_come, told_checked}
 use Rattle.result_file.proofs.migration.copy_lines.Goals as goal
 
 pub loop-verdict-init : goal.loop-verdict-init
@@ -14,7 +14,7 @@ loop-verdict-init g c = record {
 pub loop-verdict-preserved : goal.loop-verdict-preserved
 loop-verdict-preserved g c = record {
   longest = c.in-Ok-next_progress.ensures.longest ∙ c.loop-verdict.invariant.longest;
-  come = c.in-Ok-next_progress.ensures.next _ c.loop-verdict.invariant.come;
+  come = (c.in-Ok-next_progress.ensures.next _ c.loop-verdict.invariant.come).come;
   copied = copied_line _ _ _ c.loop-verdict.copy.items c.copy_line.new.copy.items c.next_progress.new.lines c.loop-verdict.invariant.copied c.in-Ok-next_progress.ensures.line (rw c.line-in-loop-verdict.ensures at c.in-Ok-copy_line.ensures);
   quiet = c.in-Ok-next_progress.ensures.quiet ∙ c.loop-verdict.invariant.quiet;
 }
@@ -27,8 +27,8 @@ loop-verdict-smaller g c = omega (arith, few_come _ _ _ _ c.loop-verdict.invaria
 
 pub returns-in-Err-next_progress-clause-migrated : goal.returns-in-Err-next_progress-clause-migrated
 returns-in-Err-next_progress-clause-migrated g c = λ text told.
-    finished c.args.format text _ _ _ c.end_copy.result c.in-Err-next_progress.verdict c.loop-verdict.copy.items c.next_progress.new.lines.line told c.loop-verdict.invariant.copied
-    c.in-Err-next_progress.ensures.piece (rw told (c.in-Err-next_progress.ensures.verdict _ c.loop-verdict.invariant.come)) (rw c.line.ensures at c.end_copy.ensures.copied) c.end_copy.ensures.refused
+    finished c.args.format text _ _ _ c.end_copy.result c.in-Err-next_progress.verdict c.loop-verdict.copy.items c.next_progress.new.lines.line told c.loop-verdict.invariant.copied _ _ _
+    c.in-Err-next_progress.ensures.piece (rw told (told_checked _ _ _ _ (c.in-Err-next_progress.ensures.verdict _ c.loop-verdict.invariant.come))) (rw c.line.ensures at c.end_copy.ensures.copied) c.end_copy.ensures.refused
 
 pub returns-in-Err-next_progress-clause-quiet : goal.returns-in-Err-next_progress-clause-quiet
 returns-in-Err-next_progress-clause-quiet g c =
