@@ -1,1 +1,4 @@
 pub mod ExchangeLemmas
+pub mod ReplyCases
+pub mod SessionLemmas
+pub mod OneSession
