@@ -15,7 +15,7 @@ expect() { # the status and the text that are wanted, the input, and the words
     fi
 }
 
-usage='usage: paprika check | migrate'
+usage='usage: paprika check | migrate | rank'
 expect 0 'valid' examples/claims.txt check
 expect 0 'valid complete' examples/result.txt check
 expect 0 'valid' examples/withdrawn.txt check
@@ -30,6 +30,8 @@ sed '1s/2$/1/' examples/result.txt >"$first_format"
 expect 0 "$(cat examples/result.txt)" "$first_format" migrate
 expect 0 "$(cat examples/withdrawn.txt)" examples/withdrawn.txt migrate
 expect 1 'invalid 1 form' examples/claims.txt migrate
+expect 0 "$(printf 'rank,name,value\n1,School,5\n2,Bridge,3\n2,Clinic,3')" examples/projects.txt rank
+expect 1 'definition form' examples/claims.txt rank
 expect 2 "$usage" examples/claims.txt
 expect 2 "$usage" examples/claims.txt check migrate
 expect 2 "$usage" examples/claims.txt Check

@@ -1,12 +1,10 @@
-//! The program `paprika`: its words, its one line of output and its statuses (`command`).
+//! The program `paprika`: `survey_server`'s commands over the standard ends.
 #![tactic(auto)]
 
-mod command;
-
-use command::plain_command;
 use edges::{StdSink, StdSource};
 use std::process::ExitCode;
 use std::{env, io};
+use survey_server::plain_command;
 
 fn main(rt: HostRuntime) -> ExitCode {
     // Words that are no text are the words of no command.
@@ -25,6 +23,3 @@ fn words_of(rt: &HostRuntime) -> io::Result<Vec<String>> {
     let words = env::args(rt)?.skip(1).collect(rt.alloc())?;
     Ok(words)
 }
-
-#[cfg(test)]
-mod tests;

@@ -1,0 +1,5 @@
+pub mod StatusLaws
+pub mod LineLemmas
+pub mod NameLemmas
+pub mod RankTextLemmas
+pub mod RankLaws

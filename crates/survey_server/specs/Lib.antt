@@ -1,0 +1,3 @@
+pub mod RankInput
+pub mod RankTexts
+pub mod Command
