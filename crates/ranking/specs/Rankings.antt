@@ -1,5 +1,5 @@
 -- Alternatives by descending worth.
-use Rattle.std.specs.Prelude.{◌≡◌, ℕ, ◌+◌, List, Option, IfSome, count_by, Bool, Result, Ok, Err, MatchResult, ℤ}
+use Rattle.std.specs.Prelude.{ℕ, ◌+◌, List, Option, IfSome, count_by, Bool, Result, Ok, Err, MatchResult, ℤ}
 use Rattle.std.specs.Ordering.{int_cmp, is_lt}
 use Rattle.std.specs.List.Sorted.{IsSortedBy, IsStableBy}
 use Rattle.ranking.specs.declared.stops.RankStop.{RankStop}

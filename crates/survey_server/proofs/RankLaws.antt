@@ -1,6 +1,6 @@
 -- A text that has a ranking isn't refused; and the status of one.
-use Rattle.std.proofs.Common.{◌≡◌, ◌≢◌, ◌⊎◌, ℕ, ◌≤◌, ◌<◌, List, [], ◌∷◌, length, refl, sym, ap, subst, ◌∙◌, arith, inl, inr}
-use Rattle.std.specs.Prelude.{Option, Some, None, Result, Ok, Err, ℤ, IfSome}
+use Rattle.std.proofs.Common.{◌≡◌, ◌≢◌, ◌⊎◌, ℕ, List, [], ◌∷◌, length, refl, sym, ap, subst, ◌∙◌, inl, inr}
+use Rattle.std.specs.Prelude.{Option, Some, None, Result, Ok, Err, ℤ}
 use Rattle.std.proofs.lemmas.Bool.Decides.{leb_tells}
 use Rattle.edges.specs.Faults.{CountsFaults, HasRisen}
 use Rattle.json_forms.specs.declared.definition_faults.DefinitionFault.{DefinitionFault}

@@ -1,9 +1,7 @@
 //! What is to be ranked: a definition line, a values line and a table.
-ghost use Rattle.std.specs.Prelude.{◌≡◌, ◌≤◌, Ok, Err, Some, true, IfErr, IfOk, IfSome, OnOk};
+ghost use Rattle.std.specs.Prelude.{◌≡◌, Ok, Err, Some, true, IfErr, IfOk, IfSome};
 ghost use Rattle.edges.specs.Faults.{CountsFaults};
 ghost use Rattle.edges.specs.Lines.{KeepsLimits, ahead};
-ghost use Rattle.criteria_model.specs.Worth.{IsValueVector};
-ghost use Rattle.json_forms.specs.DefinitionViews.{level_counts};
 ghost use Rattle.ranking.specs.declared.stops.RankStop.TheVariants.{NoMemory as NoMemoryStop, ReadFault as ReadFaultStop};
 ghost use Rattle.survey_server.specs.declared.rank_input.RankRefusal.TheVariants.{Stopped as StoppedBy};
 ghost use Rattle.survey_server.specs.RankInput.{IsDefinitionRefusal, IsToldInput, IsUnderRanking, LineIs, ReadsDefinition};

@@ -1,7 +1,5 @@
-use Rattle.std.proofs.Common.{◌≡◌, ◌∙◌, ap, sym, arith, List, ℕ}
-use Rattle.std.specs.Prelude.{slice_get, Some, None, option_map}
-use Rattle.std.proofs.lemmas.Option.{slice_get-get_or}
-use Rattle.csv.specs.Records.{field_at, fields_of}
+use Rattle.std.proofs.Common.{◌∙◌, sym}
+use Rattle.csv.specs.Records.{fields_of}
 use Rattle.csv.proofs.RecordFacts.{field-there}
 use Rattle.ranking.proofs.FieldLemmas.{field_at-get}
 use Rattle.ranking.proofs.alternatives.field.Goals as goal

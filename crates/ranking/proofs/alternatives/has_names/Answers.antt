@@ -1,4 +1,4 @@
-use Rattle.std.proofs.Common.{◌≡◌, ◌<◌, ℕ, rules, arith, drop, length}
+use Rattle.std.proofs.Common.{rules, arith, drop}
 use Rattle.std.proofs.lemmas.List.{length-drop}
 use Rattle.csv.specs.Records.{fields_of}
 use Rattle.ranking.proofs.FieldLemmas.{same_items}

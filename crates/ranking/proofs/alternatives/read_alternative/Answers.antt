@@ -1,4 +1,4 @@
-use Rattle.std.proofs.Common.{◌≡◌, ◌≤◌, ℕ, ◌∙◌, ap, sym, subst, arith, drop, length, map}
+use Rattle.std.proofs.Common.{◌≤◌, ℕ, ◌∙◌, ap, sym, subst, arith, drop, length, map}
 use Rattle.std.specs.Prelude.{List, All}
 use Rattle.std.proofs.lemmas.List.{length-take, take_at}
 use Rattle.criteria_model.specs.Criteria.{Criteria}

@@ -1,4 +1,4 @@
-use Rattle.std.proofs.Common.{◌≡◌, ◌≤◌, ◌<◌, ℕ, ◌∙◌, ap, sym, arith, drop, take, length}
+use Rattle.std.proofs.Common.{ℕ, ◌∙◌, ap, sym, arith, drop, take}
 use Rattle.std.specs.Prelude.{Ok, Err, List}
 use Rattle.std.proofs.lemmas.List.{length-take-le, take_all, take_more_set}
 use Rattle.csv.specs.Records.{fields_of}

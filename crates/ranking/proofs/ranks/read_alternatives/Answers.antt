@@ -4,7 +4,7 @@ use Rattle.std.proofs.lemmas.List.{length-append}
 use Rattle.std.proofs.lemmas.Option.{slice_get-map, slice_get_read}
 use Rattle.csv.specs.Records.{fields_of}
 use Rattle.ranking.specs.Tables.{alternative_in, alternatives_in}
-use Rattle.ranking.proofs.ReadLemmas.{refusal_map, worths_end, worths_step, worths_stop}
+use Rattle.ranking.proofs.ReadLemmas.{refusal_map, worths_step, worths_stop}
 use Rattle.ranking.proofs.ranks.read_alternatives.Goals as goal
 
 pub loop-row-preserved : goal.loop-row-preserved
