@@ -1,33 +1,46 @@
 -- The options and the plain word that stand in the words after a command.
-use Rattle.std.specs.Prelude.{ℕ, ◌==◌, ◌&&◌, Bool, false, nat_lt, List, [], ◌∷◌, length, codes, bytes_eq, Option, Some, None, option_map, if◌then◌else◌}
-use Rattle.std.specs.List.{position_or_len, before_first, after_first}
-use Rattle.text_fields.specs.Reading.{◌>>=◌}
+use Rattle.std.specs.Prelude.{ℕ, ◌==◌, ◌||◌, Bool, true, false, not, List, [], ◌∷◌, codes, bytes_eq, Option, Some, None, option_map, if◌then◌else◌}
+use Rattle.std.specs.List.{list_all}
+use Rattle.text_fields.specs.Reading.{◌>>=◌, read_word}
 
 -- an option's name, which is empty for a plain word, and the value
 abbrev pub Item : Type 0
 Item = List ℕ × List ℕ
-
--- the word begins with two hyphens
-abbrev pub is_option : List ℕ → Bool
-is_option [] = false
-is_option (first ∷ []) = false
-is_option (first ∷ second ∷ word) = (first == 45) && (second == 45)
 
 -- the word begins with a hyphen
 abbrev pub is_hyphened : List ℕ → Bool
 is_hyphened [] = false
 is_hyphened (first ∷ word) = first == 45
 
--- the name and the value of an option that are joined by `=`
-abbrev pub joined : List ℕ → Option (List ℕ × List ℕ)
-joined word =
-    if nat_lt (position_or_len (λ byte. byte == 61) word) (length word)
-    then Some (before_first (λ byte. byte == 61) word, after_first (λ byte. byte == 61) word)
-    else None
+-- nothing or `=` comes next
+abbrev pub ends_name : Option (Unit {0} × List ℕ) → Bool
+ends_name None = false
+ends_name (Some (read, [])) = true
+ends_name (Some (read, byte ∷ text)) = byte == 61
+
+-- the word is this name, or begins with it and `=`
+abbrev pub has_name : List ℕ → List ℕ → Bool
+has_name word name = ends_name (read_word name word)
+
+-- the word is plain, or an option by its whole name
+abbrev pub is_spelled : List ℕ → Bool
+is_spelled word = not (is_hyphened word)
+    || (has_name word (codes "--eliminators")
+    || (has_name word (codes "--connections") || (has_name word (codes "--sample") || has_name word (codes "--shape"))))
+
+-- what stands before and after the first `=`
+abbrev pub cut : List ℕ → Option (List ℕ × List ℕ)
+cut [] = None
+cut (byte ∷ text) = if byte == 61 then Some ([], text) else option_map (λ parts. (byte ∷ parts.0, parts.1)) (cut text)
 
 -- the item that a word is by itself: a plain word, or an option with its value
 abbrev pub item_of : List ℕ → Option Item
-item_of word = if is_option word then joined word else Some ([], word)
+item_of word = if is_hyphened word then cut word else Some ([], word)
+
+-- an item and those after it, or what comes of a word that is none by itself
+abbrev pub item_then : Option Item → Option (List Item) → Option (List Item) → Option (List Item)
+item_then (Some item) items other = option_map (λ items. item ∷ items) items
+item_then None items other = other
 
 -- the items of these words, of which the first is the value of the option that waits for one; none where an option has no
 -- value, or one that begins with a hyphen
@@ -36,10 +49,7 @@ items_after None [] = Some []
 items_after (Some name) [] = None
 items_after (Some name) (word ∷ words) =
     if is_hyphened word then None else option_map (λ items. (name, word) ∷ items) (items_after None words)
-items_after None (word ∷ words) = elim (item_of word) [
-  | Some item ↦ option_map (λ items. item ∷ items) (items_after None words)
-  | None ↦ items_after (Some word) words
-]
+items_after None (word ∷ words) = item_then (item_of word) (items_after None words) (items_after (Some word) words)
 
 -- the value of each option, and the plain word
 pub record OptionTexts : Type 0 where
@@ -79,4 +89,4 @@ options_after waiting options words = items_after waiting words >>= λ items. wi
 
 -- the options in these words, each of which stands at most once
 abbrev pub options_of : List (List ℕ) → Option OptionTexts
-options_of words = options_after None no_options words
+options_of words = if list_all is_spelled words then options_after None no_options words else None

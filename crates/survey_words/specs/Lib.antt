@@ -2,4 +2,5 @@ pub mod Numbers
 pub mod Shapes
 pub mod Items
 pub mod Read
+pub mod Parsed
 pub mod Commands

@@ -2,8 +2,7 @@
 use Rattle.std.specs.Prelude.{ℕ, List, Option, option_map}
 use Rattle.std.specs.Borrow.{Bor}
 use Rattle.survey_words.specs.declared.items.Options.{Options}
-use Rattle.survey_words.specs.declared.items.Reading.{Reading}
-use Rattle.survey_words.specs.Items.{OptionTexts, options_after}
+use Rattle.survey_words.specs.Items.{OptionTexts}
 
 -- the text that was lent
 abbrev pub text_lent : Option (Bor (List ℕ)) → Option (List ℕ)
@@ -18,7 +17,3 @@ texts_of options = record {
   sample = text_lent options.sample;
   shape = text_lent options.shape;
 }
-
--- the options that come of what was read so far and these words
-abbrev pub options_left : Reading → List (List ℕ) → Option OptionTexts
-options_left reading words = options_after (text_lent reading.waiting) (texts_of reading.options) words

@@ -47,19 +47,19 @@ pub fn read_words(alloc: Global, words: &[String]) -> Result<Option<Command>, No
     ensures exact { IfOk result (λ command. command ≡ words_of (map (λ word. string_bytes word) words.now)) }
     ensures limits { IfOk result (λ command. IfSome command IsWithin) }
 {
-    let [name, words @ ..] = words else {
+    let [name, after @ ..] = words else {
         return Ok(None);
     };
     match name.as_str() {
-        "check" => Ok(alone(Command::Check, words)),
-        "migrate" => Ok(alone(Command::Migrate, words)),
-        "rank" => Ok(alone(Command::Rank, words)),
-        "sample" => sample(alloc, words),
-        "run" => match read_options(words) {
+        "check" => Ok(alone(Command::Check, after)),
+        "migrate" => Ok(alone(Command::Migrate, after)),
+        "rank" => Ok(alone(Command::Rank, after)),
+        "sample" => sample(alloc, after),
+        "run" => match read_options(alloc, words)? {
             Some(options) => run(alloc, options),
             None => Ok(None),
         },
-        "serve" => match read_options(words) {
+        "serve" => match read_options(alloc, words)? {
             Some(options) => Ok(serve(options)),
             None => Ok(None),
         },

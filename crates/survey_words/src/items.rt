@@ -1,7 +1,16 @@
 //! Reads the options and the plain word that stand after a command.
-ghost use Rattle.std.specs.Prelude.{◌≡◌, ◌∷◌, [], None, Some, List, ℕ, map, option_map, MatchOption, string_bytes};
-ghost use Rattle.survey_words.specs.Items.{is_option as is_option_by, is_hyphened as is_hyphened_by, joined as joined_by, item_of, no_options as no_options_by, where_first as where_first_by, with_item as with_item_by, options_of};
-ghost use Rattle.survey_words.specs.Read.{options_left, text_lent, texts_of};
+ghost use Rattle.std.specs.Prelude.{◌≡◌, ◌<◌, [], Some, length, drop, false, map, option_map, IfOk, MatchOption, string_bytes};
+ghost use Rattle.std.specs.List.{list_all};
+ghost use Rattle.clap.specs.Words.{app_of, fault_of, found_of, matches_of, rows_of, rule_of};
+ghost use Rattle.survey_words.specs.Items.{has_name as has_name_by, is_hyphened as is_hyphened_by, is_spelled as is_spelled_by, options_of};
+ghost use Rattle.survey_words.specs.Parsed.{app, option_rule, texts_in};
+ghost use Rattle.survey_words.specs.Read.{texts_of};
+
+use crate::NoMemory;
+use clap::error::ErrorKind;
+use clap::{Arg, ArgMatches, Command};
+use std::alloc::Global;
+use text_fields::Fields;
 
 /// The value of each option, and the plain word.
 #[derive(Clone, Copy)]
@@ -13,94 +22,96 @@ pub(crate) struct Options<'a> {
     pub(crate) shape: Option<&'a str>,
 }
 
-/// The options that were read so far, after an option that waits for its value.
-#[derive(Clone, Copy)]
-struct Reading<'a> {
-    waiting: Option<&'a str>,
-    options: Options<'a>,
-}
-
-/// The options in these words.
-pub(crate) fn read_options<'a>(words: &'a [String]) -> Option<Options<'a>>
-    ensures { option_map texts_of result ≡ options_of (map (λ word. string_bytes word) words.entry.now) }
+/// The options in the words after the first.
+pub(crate) fn read_options<'a>(
+    alloc: Global,
+    words: &'a [String],
+) -> Result<Option<Options<'a>>, NoMemory>
+    requires { 0 < length words.now }
+    ensures { IfOk result (λ options. option_map texts_of options ≡ options_of (map (λ word. string_bytes word) (drop 1 words.entry.now))) }
 {
-    let mut reading = Reading {
-        waiting: None,
-        options: no_options(),
-    };
-    for word in words {
-        reading = after_word(reading, word.as_str())?;
+    if !are_spelled(&words[1..]) {
+        return Ok(None);
     }
-    finish(reading)
-}
-
-/// The options, where none waits for its value.
-fn finish<'a>(reading: Reading<'a>) -> Option<Options<'a>>
-    ensures { option_map texts_of result ≡ options_left reading.entry [] }
-{
-    match reading.waiting {
-        Some(_) => None,
-        None => Some(reading.options),
+    match parse(alloc, words)? {
+        Some(matches) => Ok(Some(options_in(&matches))),
+        None => Ok(None),
     }
 }
 
-/// What was read after one more word.
-fn after_word<'a>(reading: Reading<'a>, word: &'a str) -> Option<Reading<'a>>
-    ensures { (words : List (List ℕ)) → MatchOption result
-        (options_left reading.entry (word.entry.now ∷ words) ≡ None)
-        (λ now. options_left reading.entry (word.entry.now ∷ words) ≡ options_left now words) }
+/// The options that were found.
+fn options_in<'a>(matches: &ArgMatches<'a>) -> Options<'a>
+    ensures { texts_of result ≡ texts_in (rows_of (found_of matches.entry.now)) }
 {
-    let options = reading.options;
-    match reading.waiting {
-        Some(_) if is_hyphened(word) => None,
-        Some(name) => without_waiting(with_item(options, name, word)),
-        None => match item(word) {
-            Some((name, value)) => without_waiting(with_item(options, name, value)),
-            None => Some(Reading {
-                waiting: Some(word),
-                options,
-            }),
+    Options {
+        port: matches.get_str("port"),
+        eliminators: matches.get_str("eliminators"),
+        connections: matches.get_str("connections"),
+        sample: matches.get_str("sample"),
+        shape: matches.get_str("shape"),
+    }
+}
+
+/// What the parser finds in the words after the first, or `None` where it refuses them.
+fn parse<'a>(alloc: Global, words: &'a [String]) -> Result<Option<ArgMatches<'a>>, NoMemory>
+    ensures { IfOk result (λ found. MatchOption found
+        (fault_of app (map (λ word. string_bytes word) words.entry.now) ≡ [] → ⊥)
+        (λ matches. (fault_of app (map (λ word. string_bytes word) words.entry.now) ≡ [])
+        × (rows_of (found_of matches) ≡ matches_of app (map (λ word. string_bytes word) words.entry.now)))) }
+{
+    let command = command(alloc)?;
+    match command.try_get_matches_from(words) {
+        Ok(matches) => Ok(Some(matches)),
+        Err(error) => match error.kind() {
+            ErrorKind::OutOfMemory => Err(NoMemory),
+            _ => Ok(None),
         },
     }
 }
 
-/// What was read where no option waits for its value.
-fn without_waiting<'a>(options: Option<Options<'a>>) -> Option<Reading<'a>>
-    ensures { MatchOption result (options.entry ≡ None) (λ now. (text_lent now.waiting ≡ None) × (options.entry ≡ Some now.options)) }
+/// One simple command of a plain word and the options, without help and version.
+fn command<'a>(alloc: Global) -> Result<Command<'a>, NoMemory>
+    ensures { IfOk result (λ command. app_of command ≡ app) }
 {
-    let options = options?;
-    Some(Reading {
-        waiting: None,
-        options,
-    })
+    let command = Command::new(alloc, "options")
+        .disable_help_flag(true)
+        .arg(Arg::new(alloc, "port"))?
+        .arg(option(alloc, "eliminators"))?
+        .arg(option(alloc, "connections"))?
+        .arg(option(alloc, "sample"))?
+        .arg(option(alloc, "shape"))?;
+    Ok(command)
 }
 
-/// The item that a word is by itself.
-fn item(word: &str) -> Option<(&str, &str)>
-    ensures { option_map (λ item. (item.0.now, item.1.now)) result ≡ item_of word.now }
+/// An option with a value.
+fn option<'a>(alloc: Global, name: &'a str) -> Arg<'a>
+    ensures rule { rule_of result ≡ option_rule name.entry.now }
+    ensures local { result.global ≡ false }
 {
-    if is_option(word) {
-        joined(word)
-    } else {
-        Some(("", word))
+    Arg::new(alloc, name).long(name)
+}
+
+/// Whether each word is plain, or an option by its whole name.
+fn are_spelled(words: &[String]) -> bool
+    ensures { result ≡ list_all is_spelled_by (map (λ word. string_bytes word) words.now) }
+{
+    for word in words {
+        if !is_spelled(word.as_str()) {
+            return false;
+        }
     }
+    true
 }
 
-/// The name and the value of an option that are joined.
-fn joined(word: &str) -> Option<(&str, &str)>
-    ensures { option_map (λ item. (item.0.now, item.1.now)) result ≡ joined_by word.now }
+/// Whether the word is plain, or an option by its whole name.
+fn is_spelled(word: &str) -> bool
+    ensures { result ≡ is_spelled_by word.now }
 {
-    word.split_once('=')
-}
-
-/// Whether the word begins with two hyphens.
-fn is_option(word: &str) -> bool
-    ensures { result ≡ is_option_by word.now }
-{
-    match word.as_bytes() {
-        [b'-', b'-', ..] => true,
-        _ => false,
-    }
+    !is_hyphened(word)
+        || has_name(word, "--eliminators")
+        || has_name(word, "--connections")
+        || has_name(word, "--sample")
+        || has_name(word, "--shape")
 }
 
 /// Whether the word begins with a hyphen.
@@ -113,70 +124,13 @@ fn is_hyphened(word: &str) -> bool
     }
 }
 
-/// No option and no plain word.
-fn no_options<'a>() -> Options<'a>
-    ensures { texts_of result ≡ no_options_by }
+/// Whether the word is this name, or begins with it and `=`.
+fn has_name(word: &str, name: &str) -> bool
+    ensures { result ≡ has_name_by word.now name.now }
 {
-    Options {
-        port: None,
-        eliminators: None,
-        connections: None,
-        sample: None,
-        shape: None,
-    }
-}
-
-/// The options with one more item.
-fn with_item<'a>(options: Options<'a>, name: &str, value: &'a str) -> Option<Options<'a>>
-    ensures { option_map texts_of result ≡ with_item_by (name.now, value.entry.now) (texts_of options.entry) }
-{
-    let value = Some(value);
-    match name {
-        "" => where_first(
-            options.port,
-            Options {
-                port: value,
-                ..options
-            },
-        ),
-        "--eliminators" => where_first(
-            options.eliminators,
-            Options {
-                eliminators: value,
-                ..options
-            },
-        ),
-        "--connections" => where_first(
-            options.connections,
-            Options {
-                connections: value,
-                ..options
-            },
-        ),
-        "--sample" => where_first(
-            options.sample,
-            Options {
-                sample: value,
-                ..options
-            },
-        ),
-        "--shape" => where_first(
-            options.shape,
-            Options {
-                shape: value,
-                ..options
-            },
-        ),
-        _ => None,
-    }
-}
-
-/// The options with a value more, where there was none before.
-fn where_first<'a>(before: Option<&str>, now: Options<'a>) -> Option<Options<'a>>
-    ensures { option_map texts_of result ≡ where_first_by (text_lent before.entry) (texts_of now.entry) }
-{
-    match before {
-        None => Some(now),
-        Some(_) => None,
+    let mut fields = Fields::of(word.as_bytes());
+    match fields.word(name.as_bytes()) {
+        Some(()) => fields.is_empty() || fields.skip(b'='),
+        None => false,
     }
 }

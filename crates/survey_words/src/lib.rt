@@ -2,9 +2,9 @@
 //!
 //! `read_words` gives the command that the words name, or says that they name none: exactly those of the definition
 //! `words_of`. Options stand in any order, each at most once, as two words or joined by `=`, and numbers in their one
-//! spelling. Memory is taken for the level counts of a shape only.
+//! spelling. Memory is taken by the parse of options, and kept for the level counts of a shape only.
 //!
-//! Inside: `items` reads options, `numbers` and `shapes` what their values say.
+//! Inside: `items` tests the spellings and reads options with `clap`, `numbers` and `shapes` read what their values say.
 #![tactic(auto)]
 
 mod commands;

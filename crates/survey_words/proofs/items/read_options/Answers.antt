@@ -1,14 +1,21 @@
-use Rattle.std.proofs.Common.{◌∙◌, ◌+◌, ap, sym, map, drop, string_bytes, String, Global, arith}
-use Rattle.survey_words.specs.Read.{options_left}
-use Rattle.survey_words.proofs.ListLemmas.{text_ahead}
+use Rattle.std.proofs.Common.{◌≡◌, ◌∙◌, List, map, drop, ap, sym, true, Some, string_bytes, String, Global}
+use Rattle.std.specs.List.{list_all}
+use Rattle.survey_words.specs.Items.{OptionTexts, is_spelled}
+use Rattle.survey_words.proofs.ListLemmas.{to_end}
+use Rattle.survey_words.proofs.FoundLemmas.{options_found, options_missing}
 use Rattle.survey_words.proofs.items.read_options.Goals as goal
 
-pub returns-in_err-reading : goal.returns-in_err-reading
-returns-in_err-reading c =
-    let ahead = text_ahead (λ (word : String Global). string_bytes word) c.args.words.now c.loop-word.word-index c.word-item.result c.as_str.result.now (omega arith) c.word-item.is c.as_str.ensures.value in
-    rw c.from_residual.ensures (sym (c.loop-word.invariant ∙ ap (options_left c.loop-word.reading) ahead ∙ c.in_err-reading.ensures (map (λ (word : String Global). string_bytes word) (drop (c.loop-word.word-index + 1) c.args.words.now))))
+pub returns-in-Some : goal.returns-in-Some
+returns-in-Some c =
+    let parsed = rw c.in-Some.is at c.in_ok-matches.ensures in
+    let spelled : list_all is_spelled (map (λ (word : String Global). string_bytes word) (drop 1 c.args.words.now)) ≡ true =
+    ap (λ (words : List (String Global)). list_all is_spelled (map (λ (word : String Global). string_bytes word) words)) (sym (to_end c.args.words.now 1)) ∙ sym c.if-not-are_spelled.ensures in
+    ap (λ (o : OptionTexts). Some o) c.options_in.ensures
+    ∙ options_found (λ (word : String Global). string_bytes word) c.args.words.now _ c.requires spelled parsed.0 parsed.1
 
-pub loop-word-preserved : goal.loop-word-preserved
-loop-word-preserved c =
-    let ahead = text_ahead (λ (word : String Global). string_bytes word) c.args.words.now c.loop-word.word-index c.word-item.result c.as_str.result.now (omega arith) c.word-item.is c.as_str.ensures.value in
-    c.loop-word.invariant ∙ ap (options_left c.loop-word.reading) ahead ∙ c.in_ok-reading.ensures (map (λ (word : String Global). string_bytes word) (drop (c.loop-word.word-index + 1) c.args.words.now))
+pub returns-in-None : goal.returns-in-None
+returns-in-None c =
+    let failed = rw c.in-None.is at c.in_ok-matches.ensures in
+    let spelled : list_all is_spelled (map (λ (word : String Global). string_bytes word) (drop 1 c.args.words.now)) ≡ true =
+    ap (λ (words : List (String Global)). list_all is_spelled (map (λ (word : String Global). string_bytes word) words)) (sym (to_end c.args.words.now 1)) ∙ sym c.if-not-are_spelled.ensures in
+    options_missing (λ (word : String Global). string_bytes word) c.args.words.now c.requires spelled failed
