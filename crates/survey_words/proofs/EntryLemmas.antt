@@ -1,5 +1,5 @@
 -- The value of an id in what was found, and in its rows.
-use Rattle.std.proofs.Common.{◌≡◌, Bool, true, false, List, [], ◌∷◌, Option, Some, None, refl, map, find, slice_get, option_map, option_and_then, if◌then◌else◌, Bor}
+use Rattle.std.proofs.Common.{◌≡◌, Bool, true, false, List, [], ◌∷◌, Some, refl, map, find, slice_get, option_map, option_and_then, if◌then◌else◌, Bor}
 use Rattle.std.specs.Str.{bytes_eq}
 use Rattle.clap.specs.Walk.{Text, first_of, row_of}
 use Rattle.clap.specs.Facts.{Entry}

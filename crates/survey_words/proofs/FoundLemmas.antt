@@ -1,16 +1,16 @@
 -- What a parse of all the words finds.
-use Rattle.std.proofs.Common.{◌≡◌, ◌==◌, ◌<◌, ℕ, map, drop, suc, Bool, true, false, not, List, [], ◌∷◌, Option, Some, None, is_some, refl, ap, sym, ◌∙◌, subst, fold, length, ◌&&◌, ◌||◌, if◌then◌else◌, MatchOption, arith}
+use Rattle.std.proofs.Common.{◌≡◌, ◌==◌, ◌<◌, ℕ, map, drop, suc, Bool, true, false, List, [], ◌∷◌, Option, Some, None, is_some, refl, ap, sym, ◌∙◌, fold, length, ◌||◌, if◌then◌else◌, MatchOption, arith}
 use Rattle.std.proofs.lemmas.Bool.Decides.{nat_tests}
 use Rattle.std.specs.List.{list_all}
 use Rattle.clap.specs.Kinds.{Kinds, or_else}
-use Rattle.clap.specs.Walk.{Walk, Row, Rule, Text, idle, is_empty, nothing_held, walk_from, walked, with_default, default_rows, reading_by, has_row, settled}
+use Rattle.clap.specs.Walk.{Walk, Row, Rule, Text, is_empty, nothing_held, walk_from, walked, with_default, default_rows, reading_by, has_row, settled}
 use Rattle.clap.specs.Faults.{walk_fault, defaults_fault, check_fault, entered_fault, fault_of}
 use Rattle.clap.specs.Simple.{built, entered, matches_of}
 use Rattle.survey_words.specs.Items.{OptionTexts, is_spelled, no_options, options_after, options_of}
-use Rattle.survey_words.specs.Parsed.{app, texts_in}
-use Rattle.survey_words.proofs.ParseSteps.{at, top, rules, settling}
+use Rattle.survey_words.specs.Parsed.{simple_command, texts_in}
+use Rattle.survey_words.proofs.ParseSteps.{top, rules, settling}
 use Rattle.survey_words.proofs.RowLemmas.{both}
-use Rattle.survey_words.proofs.ReadLemmas.{Reads, no_texts, total, rows_end, follows}
+use Rattle.survey_words.proofs.ReadLemmas.{Reads, no_texts, rows_end, follows}
 
 or_true : (b : Bool) → b || true ≡ true
 or_true true = refl
@@ -52,14 +52,14 @@ or_else_none (k ∷ ks) b e = cc
 
 -- nothing fails after the walk
 after_walk : (stop : Option (Text × List Text)) (rows rows_now : List Row)
-    → or_else (entered_fault (built app) stop) (or_else [] (or_else (defaults_fault rows rules) (check_fault top rows_now (is_some (entered (built app) stop))))) ≡ []
+    → or_else (entered_fault (built simple_command) stop) (or_else [] (or_else (defaults_fault rows rules) (check_fault top rows_now (is_some (entered (built simple_command) stop))))) ≡ []
 after_walk None rows rows_now = ap (λ k. or_else k (check_fault top rows_now false)) (no_fault rules rows refl)
 after_walk (Some p) rows rows_now = ap (λ k. or_else k (check_fault top rows_now false)) (no_fault rules rows refl)
 
 -- the parse finds the options that the words say, and fails where they say none
 pub found_so : (first : Text) (words : List Text) → list_all is_spelled words ≡ true → MatchOption (options_after None no_options words)
-    (fault_of app (first ∷ words) ≡ [] → ⊥)
-    (λ options. (fault_of app (first ∷ words) ≡ []) × (texts_in (matches_of app (first ∷ words)) ≡ options))
+    (fault_of simple_command (first ∷ words) ≡ [] → ⊥)
+    (λ options. (fault_of simple_command (first ∷ words) ≡ []) × (texts_in (matches_of simple_command (first ∷ words)) ≡ options))
 found_so first words spelled = go (options_after None no_options words) ((follows words spelled).rests nothing_held 1 refl refl refl)
   where
     start : Walk
@@ -69,11 +69,11 @@ found_so first words spelled = go (options_after None no_options words) ((follow
     end = fold (walked rules []) (walk_from nothing_held) words
 
     go : (target : Option OptionTexts) → Reads (walk_from nothing_held) words target → MatchOption target
-        (fault_of app (first ∷ words) ≡ [] → ⊥)
-        (λ options. (fault_of app (first ∷ words) ≡ []) × (texts_in (matches_of app (first ∷ words)) ≡ options))
+        (fault_of simple_command (first ∷ words) ≡ [] → ⊥)
+        (λ options. (fault_of simple_command (first ∷ words) ≡ []) × (texts_in (matches_of simple_command (first ∷ words)) ≡ options))
     go None fails = λ none.
         let walk_passed = or_else_none (walk_fault top [] start words) _ none in
-        let entry_passed = or_else_none (entered_fault (built app) end.stopped) _ walk_passed.1 in
+        let entry_passed = or_else_none (entered_fault (built simple_command) end.stopped) _ walk_passed.1 in
         let end_passed = or_else_none (settling end.held) _ entry_passed.1 in
         fails (ap (λ k. or_else k (settling end.held)) walk_passed.0 ∙ end_passed.0)
     go (Some options) (whole, texts) =
@@ -85,30 +85,30 @@ found_so first words spelled = go (options_after None no_options words) ((follow
 module _ {X : Type 0} (text : X → List ℕ) where
   -- the options that are found are those of the words after the first
   pub options_found : (words : List X) (rows : List Row) → 0 < length words → list_all is_spelled (map text (drop 1 words)) ≡ true
-      → fault_of app (map text words) ≡ [] → rows ≡ matches_of app (map text words) → Some (texts_in rows) ≡ options_of (map text (drop 1 words))
+      → fault_of simple_command (map text words) ≡ [] → rows ≡ matches_of simple_command (map text words) → Some (texts_in rows) ≡ options_of (map text (drop 1 words))
   options_found [] rows some spelled passed found = absurd (omega arith)
   options_found (word ∷ words) rows some spelled passed found =
       go (options_after None no_options (map text words)) (found_so (text word) (map text words) spelled)
       ∙ sym (ap (λ (b : Bool). if b then options_after None no_options (map text words) else no_texts) spelled)
     where
       go : (target : Option OptionTexts) → MatchOption target
-          (fault_of app (text word ∷ map text words) ≡ [] → ⊥)
-          (λ options. (fault_of app (text word ∷ map text words) ≡ []) × (texts_in (matches_of app (text word ∷ map text words)) ≡ options))
+          (fault_of simple_command (text word ∷ map text words) ≡ [] → ⊥)
+          (λ options. (fault_of simple_command (text word ∷ map text words) ≡ []) × (texts_in (matches_of simple_command (text word ∷ map text words)) ≡ options))
           → Some (texts_in rows) ≡ target
       go None fails = absurd (fails passed)
       go (Some options) (whole, texts) = ap (λ (o : OptionTexts). Some o) (ap texts_in found ∙ texts)
 
   -- where the parse fails there are none
   pub options_missing : (words : List X) → 0 < length words → list_all is_spelled (map text (drop 1 words)) ≡ true
-      → (fault_of app (map text words) ≡ [] → ⊥) → no_texts ≡ options_of (map text (drop 1 words))
+      → (fault_of simple_command (map text words) ≡ [] → ⊥) → no_texts ≡ options_of (map text (drop 1 words))
   options_missing [] some spelled fails = absurd (omega arith)
   options_missing (word ∷ words) some spelled fails =
       go (options_after None no_options (map text words)) (found_so (text word) (map text words) spelled)
       ∙ sym (ap (λ (b : Bool). if b then options_after None no_options (map text words) else no_texts) spelled)
     where
       go : (target : Option OptionTexts) → MatchOption target
-          (fault_of app (text word ∷ map text words) ≡ [] → ⊥)
-          (λ options. (fault_of app (text word ∷ map text words) ≡ []) × (texts_in (matches_of app (text word ∷ map text words)) ≡ options))
+          (fault_of simple_command (text word ∷ map text words) ≡ [] → ⊥)
+          (λ options. (fault_of simple_command (text word ∷ map text words) ≡ []) × (texts_in (matches_of simple_command (text word ∷ map text words)) ≡ options))
           → no_texts ≡ target
       go None never = refl
       go (Some options) (whole, texts) = absurd (fails whole)

@@ -1,19 +1,19 @@
 -- What one word does to the parser of command lines.
-use Rattle.std.proofs.Common.{◌≡◌, ℕ, zero, suc, Bool, true, false, not, List, [], ◌∷◌, ◌++◌, Option, Some, None, is_some, refl, ap, sym, ◌∙◌, codes, ◌==◌, ◌&&◌, ◌||◌}
+use Rattle.std.proofs.Common.{◌≡◌, ℕ, Bool, true, false, List, [], ◌∷◌, ◌++◌, Option, Some, None, refl, codes, ◌&&◌}
 use Rattle.clap.specs.Kinds.{Kinds, or_else}
 use Rattle.clap.specs.Values.{reading_of}
-use Rattle.clap.specs.Walk.{Held, Walk, Waiting, idle, option, Row, Rule, Text, walked, settled, settled_rows, with_values, without, has_row, is_pending}
+use Rattle.clap.specs.Walk.{Held, Walk, Waiting, idle, option, Row, Rule, Text, walked, settled, settled_rows, with_values, without}
 use Rattle.clap.specs.Faults.{turn_fault, settle_fault, repeat_fault}
 use Rattle.clap.specs.Simple.{Shape, built}
 use Rattle.clap.specs.declared.builder.value_parser.ValueParser.TheVariants as vp
 use Rattle.clap.specs.declared.parser.matches.ValueSource.TheVariants.{CommandLine}
 use Rattle.clap.specs.declared.error.kind.ErrorKind.TheVariants as kind
 use Rattle.survey_words.specs.Items.{is_hyphened}
-use Rattle.survey_words.specs.Parsed.{app}
+use Rattle.survey_words.specs.Parsed.{simple_command}
 
 -- the command as it is built
 abbrev pub top : Shape
-top = (built app).top
+top = (built simple_command).top
 
 abbrev pub rules : List Rule
 rules = top.rules

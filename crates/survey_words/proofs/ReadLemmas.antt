@@ -1,10 +1,10 @@
 -- What the parser of command lines finds is what the words say.
-use Rattle.std.proofs.Common.{◌≡◌, ◌⊎◌, ℕ, suc, Bool, true, false, not, List, [], ◌∷◌, ◌++◌, Option, Some, None, is_some, refl, ap, sym, ◌∙◌, subst, codes, fold, option_map, ◌&&◌, ◌||◌, ◌==◌, if◌then◌else◌, MatchOption, inl, inr, arith, nat_eq}
+use Rattle.std.proofs.Common.{◌≡◌, ◌⊎◌, ℕ, Bool, true, false, not, List, [], ◌∷◌, ◌++◌, Option, Some, None, refl, ap, sym, ◌∙◌, subst, codes, fold, option_map, ◌||◌, ◌==◌, if◌then◌else◌, MatchOption, inl, inr, arith}
 use Rattle.std.specs.List.{list_all}
 use Rattle.std.proofs.lemmas.List.{append-nil}
 use Rattle.std.proofs.lemmas.Bool.Decides.{nat_tests}
 use Rattle.clap.specs.Kinds.{Kinds, or_else}
-use Rattle.clap.specs.Walk.{Held, Walk, Waiting, idle, option, Row, Text, walked, settled, has_row, first_of}
+use Rattle.clap.specs.Walk.{Held, Walk, idle, option, Row, Text, walked, settled, has_row, first_of}
 use Rattle.clap.specs.Faults.{turn_fault, walk_fault}
 use Rattle.clap.specs.declared.error.kind.ErrorKind.{ErrorKind}
 use Rattle.clap.specs.declared.error.kind.ErrorKind.TheVariants as kind
@@ -13,7 +13,7 @@ use Rattle.text_fields.proofs.WordLaws.{word_field}
 use Rattle.survey_words.specs.Items.{Item, OptionTexts, is_hyphened, is_spelled, has_name, ends_name, cut, item_of, item_then, items_after, with_item, with_items, options_after}
 use Rattle.survey_words.specs.Parsed.{texts_in}
 use Rattle.survey_words.proofs.ParseSteps.{Name, of_eliminators, of_connections, of_sample, of_shape, id_of, name_of, joined_word, top, rules, held, at, settling, put_row, again, name_met, name_met_late, joined_met, joined_met_late, after_name, after_joined, settling_value, settling_port, settled_value, settled_port, settling_none, value_met, after_value, plain_met, plain_met_late, after_plain}
-use Rattle.survey_words.proofs.RowLemmas.{both, neither, has_value, absent, present, full_put, port_put, option_put, port_again, option_again, same_in, port_same}
+use Rattle.survey_words.proofs.RowLemmas.{both, has_value, absent, present, full_put, port_put, option_put, port_again, option_again, same_in, port_same}
 
 -- ---- the words
 

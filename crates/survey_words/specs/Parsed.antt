@@ -1,6 +1,6 @@
 -- What the parser of command lines is told of the options, and what it found.
-use Rattle.std.specs.Prelude.{ℕ, List, [], ◌∷◌, codes, Option, Some, None, true}
-use Rattle.clap.specs.Words.{App, Rule, Row, Text, first_of, new_app, new_rule, with_rule}
+use Rattle.std.specs.Prelude.{ℕ, List, codes, Some, true}
+use Rattle.clap.specs.Words.{App, Rule, Row, first_of, new_app, new_rule, with_rule}
 use Rattle.clap.specs.Simple.{on_top}
 use Rattle.survey_words.specs.Items.{OptionTexts}
 
@@ -9,8 +9,8 @@ abbrev pub option_rule : List ℕ → Rule
 option_rule name = record (new_rule name) { long = Some name }
 
 -- the plain word and the options, without help
-abbrev pub app : App
-app = with_rule (with_rule (with_rule (with_rule (with_rule
+abbrev pub simple_command : App
+simple_command = with_rule (with_rule (with_rule (with_rule (with_rule
     (on_top (λ shape. record shape { disable_help_flag = true }) (new_app (codes "options")))
     (new_rule (codes "port")))
     (option_rule (codes "eliminators"))) (option_rule (codes "connections"))) (option_rule (codes "sample"))) (option_rule (codes "shape"))

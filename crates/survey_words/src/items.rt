@@ -3,7 +3,7 @@ ghost use Rattle.std.specs.Prelude.{◌≡◌, ◌<◌, [], Some, length, drop, 
 ghost use Rattle.std.specs.List.{list_all};
 ghost use Rattle.clap.specs.Words.{app_of, fault_of, found_of, matches_of, rows_of, rule_of};
 ghost use Rattle.survey_words.specs.Items.{has_name as has_name_by, is_hyphened as is_hyphened_by, is_spelled as is_spelled_by, options_of};
-ghost use Rattle.survey_words.specs.Parsed.{app, option_rule, texts_in};
+ghost use Rattle.survey_words.specs.Parsed.{simple_command, option_rule, texts_in};
 ghost use Rattle.survey_words.specs.Read.{texts_of};
 
 use crate::NoMemory;
@@ -55,9 +55,9 @@ fn options_in<'a>(matches: &ArgMatches<'a>) -> Options<'a>
 /// What the parser finds in the words after the first, or `None` where it refuses them.
 fn parse<'a>(alloc: Global, words: &'a [String]) -> Result<Option<ArgMatches<'a>>, NoMemory>
     ensures { IfOk result (λ found. MatchOption found
-        (fault_of app (map (λ word. string_bytes word) words.entry.now) ≡ [] → ⊥)
-        (λ matches. (fault_of app (map (λ word. string_bytes word) words.entry.now) ≡ [])
-        × (rows_of (found_of matches) ≡ matches_of app (map (λ word. string_bytes word) words.entry.now)))) }
+        (fault_of simple_command (map (λ word. string_bytes word) words.entry.now) ≡ [] → ⊥)
+        (λ matches. (fault_of simple_command (map (λ word. string_bytes word) words.entry.now) ≡ [])
+        × (rows_of (found_of matches) ≡ matches_of simple_command (map (λ word. string_bytes word) words.entry.now)))) }
 {
     let command = command(alloc)?;
     match command.try_get_matches_from(words) {
@@ -71,7 +71,7 @@ fn parse<'a>(alloc: Global, words: &'a [String]) -> Result<Option<ArgMatches<'a>
 
 /// One simple command of a plain word and the options, without help and version.
 fn command<'a>(alloc: Global) -> Result<Command<'a>, NoMemory>
-    ensures { IfOk result (λ command. app_of command ≡ app) }
+    ensures { IfOk result (λ command. app_of command ≡ simple_command) }
 {
     let command = Command::new(alloc, "options")
         .disable_help_flag(true)

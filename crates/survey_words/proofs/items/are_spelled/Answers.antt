@@ -1,4 +1,4 @@
-use Rattle.std.proofs.Common.{◌≡◌, ◌∙◌, ◌+◌, ◌&&◌, Bool, List, ℕ, ap, sym, map, drop, string_bytes, String, Global, arith}
+use Rattle.std.proofs.Common.{◌∙◌, ◌+◌, ◌&&◌, Bool, ap, sym, map, drop, string_bytes, String, Global, arith}
 use Rattle.std.specs.List.{list_all}
 use Rattle.survey_words.specs.Items.{is_spelled}
 use Rattle.survey_words.proofs.ListLemmas.{text_ahead}

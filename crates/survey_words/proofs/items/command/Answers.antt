@@ -1,5 +1,5 @@
 use Rattle.std.proofs.Common.{◌≡◌, ◌∙◌, ap, ap₂, codes, true}
-use Rattle.clap.specs.Words.{App, Shape, app_of, new_app, with_rule}
+use Rattle.clap.specs.Words.{Shape, app_of, new_app, with_rule}
 use Rattle.clap.specs.Simple.{app_of_fields, on_top}
 use Rattle.survey_words.proofs.items.command.Goals as goal
 

@@ -1,6 +1,5 @@
 use Rattle.std.proofs.Common.{◌∙◌, codes}
 use Rattle.clap.specs.Words.{found_of}
-use Rattle.survey_words.specs.Items.{OptionTexts}
 use Rattle.survey_words.proofs.EntryLemmas.{value_in_row}
 use Rattle.survey_words.proofs.items.options_in.Goals as goal
 
