@@ -1,0 +1,3 @@
+pub mod LockSeats
+pub mod Passes
+pub mod Accesses
