@@ -68,3 +68,9 @@ pub keeps_along : (count : ℕ) (old new : View Event Listed) (listed : Listed) 
 keeps_along count old new listed keeps was kind same outside =
     let legal : IsListed listed × IsLegal listed new.front = legal_along count old listed new.front keeps was same in
     keeps_outside count new listed (keeps.counts ∙ ap (λ (l : List Event). length l) (sym same)) kind legal.0 legal.1 outside
+
+-- what is legal stays so under other names
+pub legal_moved : (own listed : Listed) (journal front : List Event) → own ≡ listed → front ≡ journal → IsListed own → IsLegal own journal
+    → IsListed listed × IsLegal listed front
+legal_moved own listed journal front same moved lists legal =
+    subst (λ (l : Listed). IsListed l × IsLegal l front) same (lists, subst (λ (j : List Event). IsLegal own j) (sym moved) legal)

@@ -1,3 +1,4 @@
 pub mod LockSeats
 pub mod Passes
 pub mod Accesses
+pub mod Benches

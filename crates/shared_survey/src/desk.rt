@@ -1,5 +1,6 @@
 //! A desk that asks and answers by its pass.
-ghost use Rattle.std.specs.Prelude.{◌≡◌};
+ghost use Rattle.std.specs.Option.{ForSome};
+ghost use Rattle.std.specs.Prelude.{◌≡◌, ◌≤◌, All};
 ghost use Rattle.survey_core.specs.Legal.{IsDesk};
 ghost use Rattle.shared_survey.specs.Passes.{IsPassOf, desk_of};
 
@@ -8,35 +9,63 @@ use crate::pass_access::PassAbout;
 use crate::survey::Survey;
 use criteria_model::{Pair, Side};
 use edges::Gate;
+use eliminators::JobEnd;
 use std::alloc::AllocError as NoMemory;
+use std::slice;
 use std::sync::Wait;
 use survey_core::Event;
 use survey_replies::{AnswerReply, Events, NextReply, Respondent, ValuesReply, WithdrawReply};
 
-/// A desk of a survey, while its pass is lent.
+/// A desk of a survey, while its pass is lent. It sends a job after each answer that is accepted, where it has an end of the line.
 #[derive(Drop)]
 pub struct Desk<'a, R: Wait + Sync, G: Gate> {
     rt: &'a R,
     survey: &'a Survey,
     pass: &'a mut Pass,
     gate: &'a G,
+    // One end of the job line, or none.
+    jobs: &'a [JobEnd],
+    // The survey's number on that line.
+    number: u32,
     ghost of: { IsPassOf survey.now pass.now },
     ghost of_desk: { IsDesk (desk_of pass.now) },
+    ghost numbered: { All (λ jobs. (1 ≤ number) × (number ≤ jobs.surveys)) jobs.now },
 }
 
 impl<'a, R: Wait + Sync, G: Gate> Desk<'a, R, G> {
-    /// The desk of the pass.
-    pub fn lend(rt: &'a R, survey: &'a Survey, pass: &'a mut Pass, gate: &'a G) -> Desk<'a, R, G>
+    /// The desk of the pass. `number` is the survey's on the job line.
+    pub fn lend(
+        rt: &'a R,
+        survey: &'a Survey,
+        pass: &'a mut Pass,
+        jobs: Option<&'a JobEnd>,
+        number: u32,
+        gate: &'a G,
+    ) -> Desk<'a, R, G>
         requires pass { IsPassOf survey.now pass.old }
         requires desk { IsDesk (desk_of pass.old) }
+        requires jobs { ForSome jobs (λ end. (1 ≤ number) × (number ≤ end.now.surveys)) }
         ensures loan { result.pass.ghost_name ≡ pass.entry.ghost_name }
         ensures lent { (result.survey.now ≡ survey.now) × (result.pass.now ≡ pass.old) }
     {
+        let jobs: &'a [JobEnd] = match jobs {
+            Some(end) => slice::from_ref(end),
+            None => &[],
+        };
         Desk {
             rt,
             survey,
             pass,
             gate,
+            jobs,
+            number,
+        }
+    }
+
+    /// Sends a job of the survey, if there is a line.
+    fn send_job(&self) {
+        for end in self.jobs {
+            end.send(self.rt, self.number);
         }
     }
 }
@@ -77,7 +106,11 @@ impl<'a, R: Wait + Sync, G: Gate> Respondent for Desk<'a, R, G> {
     }
 
     fn answer(&mut self, question: u32, side: Side) -> AnswerReply {
-        self.survey.answer(self.rt, self.pass, question, side)
+        let reply = self.survey.answer(self.rt, self.pass, question, side);
+        if let AnswerReply::Accepted { .. } = reply {
+            self.send_job();
+        }
+        reply
     }
 
     fn values(&mut self) -> ValuesReply {

@@ -1,6 +1,7 @@
 //! A survey that several threads share.
 #![tactic(auto)]
 
+mod bench;
 mod desk;
 mod desk_calls;
 mod pass;
@@ -9,6 +10,8 @@ mod seat;
 mod shared_state;
 mod survey;
 
+pub use bench::{BenchAbout, SurveyBench};
 pub use desk::Desk;
 pub use pass::{Front, Pass};
+pub use pass_access::PassAbout;
 pub use survey::Survey;

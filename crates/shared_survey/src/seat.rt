@@ -95,6 +95,7 @@ impl SurveySeat {
         ensures at { IsAtLock turn.now self.new × (journal_out self.new ≡ None) }
         ensures journal { (seat_seen self.new).journal ≡ state.journal }
         ensures turn { (found : List TheEvent) → journal_out self.old ≡ Some found → TakesTurn (seat_seen self.old) (seat_seen self.new) found }
+        ensures legal { IsListed (opening turn.now).state.listed × IsLegal (opening turn.now).state.listed (seat_seen self.new).journal }
         ensures same { self.new.knows.weight ≡ self.old.knows.weight }
     {
         let length = state.length();

@@ -18,8 +18,8 @@ invariant_of-self c =
     let other_kind : other.kind ≡ Some listed = ap (λ (s : LockSeat). s.knows.kind) c.other.view_is ∙ c.requires.other.0.kind in
     let legal : IsListed listed × IsLegal listed new.front =
     elim c.join.ensures.front.2 [
-      inl same ↦ legal_along c.self.inside.length old listed new.front c.self.invariant kind same
-    | inr same ↦ legal_along c.other.inside.length other listed new.front c.other.invariant other_kind same
+      | inl same ↦ legal_along c.self.inside.length old listed new.front c.self.invariant kind same
+      | inr same ↦ legal_along c.other.inside.length other listed new.front c.other.invariant other_kind same
     ] in
     let counts : max c.self.inside.length c.other.inside.length ≡ max (length old.front) (length other.front) =
     ap₂ (λ (a b : ℕ). max a b) c.self.invariant.counts c.other.invariant.counts in
