@@ -466,3 +466,44 @@ fn solve_outside_turn(rt: HostRuntime) -> Result<(), Fail> {
     assert!(rt; !gate.missed());
     Ok(())
 }
+
+/// A survey that four desks answer at once, and what is left is answered by the first.
+fn answered_by_four<R: Threads + Wait + Sync>(
+    rt: &R,
+    alloc: Global,
+) -> Result<(State, bool), Fail> {
+    let (survey, mut whole) = survey_of(alloc, &[2, 2, 2], 3, 5)?;
+    let a = survey.pass(alloc, &mut whole, 1)?;
+    let b = survey.pass(alloc, &mut whole, 2)?;
+    let c = survey.pass(alloc, &mut whole, 3)?;
+    let d = survey.pass(alloc, &mut whole, 4)?;
+    let lent = &survey;
+    let ((a, b), (c, d)) = join(
+        rt,
+        || -> (Pass, Pass)
+            requires { IsSync R.row × IsPassOf lent.now a × IsDesk (desk_of a) × (pass_weight a ≡ 1) × IsPassOf lent.now b × IsDesk (desk_of b) × (pass_weight b ≡ 1) }
+            ensures first { IsPassOf lent.entry.now result.0 × IsDesk (desk_of result.0) × (pass_weight result.0 ≡ 1) }
+            ensures second { IsPassOf lent.entry.now result.1 × (pass_weight result.1 ≡ 1) }
+        { both_worked(rt, lent, a, b) },
+        || -> (Pass, Pass)
+            requires { IsSync R.row × IsPassOf lent.now c × IsDesk (desk_of c) × (pass_weight c ≡ 1) × IsPassOf lent.now d × IsDesk (desk_of d) × (pass_weight d ≡ 1) }
+            ensures first { IsPassOf lent.entry.now result.0 × (pass_weight result.0 ≡ 1) }
+            ensures second { IsPassOf lent.entry.now result.1 × (pass_weight result.1 ≡ 1) }
+        { both_worked(rt, lent, c, d) },
+    );
+    survey.join(&mut whole, b);
+    survey.join(&mut whole, c);
+    survey.join(&mut whole, d);
+    let mut a = worked(rt, &survey, a);
+    let complete = has_values(rt, &survey, &mut a);
+    survey.join(&mut whole, a);
+    Ok((survey.close(whole), complete))
+}
+
+#[test]
+fn four_desks_at_once(rt: HostRuntime) -> Result<(), Fail> {
+    let (state, complete) = answered_by_four(&rt, rt.alloc())?;
+    assert!(rt; complete);
+    assert!(rt; state.core().all_ranked());
+    Ok(())
+}
