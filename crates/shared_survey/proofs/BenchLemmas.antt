@@ -1,5 +1,5 @@
 -- A hand-in appends to the journal.
-use Rattle.std.proofs.Common.{◌≡◌, ℕ, List, [], ◌∷◌, ◌++◌, sym, ◌∙◌, append-nil}
+use Rattle.std.proofs.Common.{◌≡◌, ℕ, List, [], ◌∷◌, sym, ◌∙◌, append-nil}
 use mathlib.Core.List.{IsPrefix}
 use Rattle.decider.specs.declared.decision.Decision.{Decision}
 use Rattle.decider.specs.declared.decision.Decision.TheVariants.{Undecided, Implied}

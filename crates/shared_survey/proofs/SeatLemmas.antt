@@ -1,5 +1,5 @@
 -- What a seat keeps, before and after its turns.
-use Rattle.std.proofs.Common.{◌≡◌, ◌⊎◌, inl, inr, max, ℕ, ◌≤◌, List, [], ◌++◌, length, Option, Some, None, sym, subst, ap, ◌∙◌, arith, append-nil}
+use Rattle.std.proofs.Common.{◌≡◌, ◌⊎◌, inl, inr, max, ℕ, ◌≤◌, List, length, Option, Some, sym, subst, ap, ◌∙◌, arith}
 use Rattle.std.proofs.lemmas.Option.{none-some, same_Some}
 use mathlib.Core.List.{IsPrefix}
 use Rattle.row_laws.specs.Items.{item_at}
@@ -9,9 +9,8 @@ use Rattle.survey_core.specs.declared.events.Event.{Event}
 use Rattle.survey_core.specs.Legal.{IsLegal}
 use Rattle.survey_replies.proofs.CallLemmas.{prefix_length}
 use Rattle.turn_lock.specs.declared.rule.View.{View}
-use Rattle.turn_lock.specs.declared.rule.Stage.{Stage}
 use Rattle.turn_lock.specs.declared.rule.Stage.TheVariants.{Outside}
-use Rattle.shared_survey.specs.LockSeats.{LockSeat, KeepsSeat, stage_journal, seat_seen}
+use Rattle.shared_survey.specs.LockSeats.{KeepsSeat, stage_journal}
 
 -- an event that was seen stands at the same place in a longer journal
 pub item_shorter : (front journal : List Event) (place : ℕ) (event : Event) → IsPrefix front journal → 1 ≤ place → place ≤ length front

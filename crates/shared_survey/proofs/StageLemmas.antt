@@ -1,6 +1,6 @@
 -- What a seat's stage says of the journal that is out.
-use Rattle.std.proofs.Common.{◌≡◌, ℕ, true, false, Bool, List, Option, Some, None, refl, sym, subst, ap, ◌∙◌}
-use Rattle.std.proofs.lemmas.Option.{none-some, same_Some}
+use Rattle.std.proofs.Common.{◌≡◌, true, false, List, Some, None, refl, ap}
+use Rattle.std.proofs.lemmas.Option.{same_Some}
 use Rattle.survey_core.specs.declared.events.Event.{Event}
 use Rattle.turn_lock.specs.declared.rule.Stage.{Stage}
 use Rattle.turn_lock.specs.declared.rule.Stage.TheVariants.{Outside, Waiting, Served}

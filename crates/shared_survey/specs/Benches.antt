@@ -1,5 +1,4 @@
 -- What contracts see of a bench by a pass.
-use Rattle.std.specs.Prelude.{ℕ}
 use Rattle.eliminators.specs.Jobs.{JobCounts}
 use Rattle.survey_replies.specs.Calls.{Seen}
 use Rattle.shared_survey.specs.declared.bench.BenchAbout.{BenchAbout}

@@ -1,4 +1,4 @@
-use Rattle.std.proofs.Common.{List, subst, ap, ◌∙◌}
+use Rattle.std.proofs.Common.{subst, ap, ◌∙◌}
 use Rattle.survey_replies.specs.Calls.{Seen, TakesTurn}
 use Rattle.survey_state.specs.States.{Surveyed}
 use Rattle.survey_state.proofs.StepLemmas.{watches}

@@ -1,4 +1,4 @@
-use Rattle.std.proofs.Common.{◌≡◌, ℕ, max, List, length, Some, inl, inr, sym, ap, ap₂, ◌∙◌}
+use Rattle.std.proofs.Common.{◌≡◌, ℕ, max, length, Some, inl, inr, sym, ap, ap₂, ◌∙◌}
 use Rattle.pair_enumeration.specs.Listed.{Listed, IsListed}
 use Rattle.survey_core.specs.declared.events.Event.{Event}
 use Rattle.survey_core.specs.Legal.{IsLegal}

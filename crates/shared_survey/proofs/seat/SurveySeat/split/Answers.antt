@@ -1,8 +1,5 @@
-use Rattle.std.proofs.Common.{◌≡◌, List, length, Some, sym, ap, ◌∙◌}
-use Rattle.pair_enumeration.specs.Listed.{Listed, IsListed}
-use Rattle.survey_core.specs.declared.events.Event.{Event}
-use Rattle.survey_core.specs.Legal.{IsLegal}
-use Rattle.turn_lock.specs.declared.rule.View.{View}
+use Rattle.std.proofs.Common.{ap, ◌∙◌}
+use Rattle.pair_enumeration.specs.Listed.{Listed}
 use Rattle.turn_lock.specs.Seats.{opening}
 use Rattle.shared_survey.specs.LockSeats.{LockSeat}
 use Rattle.shared_survey.proofs.SeatLemmas.{keeps_along}
