@@ -21,8 +21,8 @@ fn read(alloc: Global, line: &[u8]) -> Result<&'static str, NoMemory> {
 }
 
 #[test]
-fn lines_and_their_messages(rt: HostRuntime) -> Result<(), Fail> {
-    let table: [(&[u8], &str); 38] = [
+fn lines_that_are_messages(rt: HostRuntime) -> Result<(), Fail> {
+    let table: [(&[u8], &str); 16] = [
         (br#"{"ask":"next"}"#, "next"),
         (br#"{"ask":"values"}"#, "values"),
         (br#"{"ask":"withdraw"}"#, "withdraw"),
@@ -52,52 +52,44 @@ fn lines_and_their_messages(rt: HostRuntime) -> Result<(), Fail> {
             br#"{"hello":{"code":"\ud83d\ude00","desk":1,"name":"\u00e9"}}"#,
             "hello",
         ),
-        // other names, numbers of members, types and words
-        (
-            br#"{"ask":"next","answer":{"question":1,"side":"left"}}"#,
-            "none",
-        ),
-        (br#"{"ask":"nexT"}"#, "none"),
-        (br#"{"Ask":"next"}"#, "none"),
-        (br#"{"ask":null}"#, "none"),
-        (br#"["ask"]"#, "none"),
-        (br#"{}"#, "none"),
-        (br#""#, "none"),
-        (br#"hi"#, "none"),
-        (br#"{"ask":"next"} {"ask":"next"}"#, "none"),
-        (br#"{"answer":{"question":"1","side":"left"}}"#, "none"),
-        (br#"{"answer":{"question":1,"side":"up"}}"#, "none"),
-        (
-            br#"{"answer":{"question":1,"side":"left","more":1}}"#,
-            "none",
-        ),
-        (br#"{"hello":{"code":"k1","desk":1}}"#, "none"),
-        (
-            br#"{"hello":{"code":"k1","desk":"1","name":"ana"}}"#,
-            "none",
-        ),
-        // numbers that aren't whole, are below 0, or too large
-        (br#"{"answer":{"question":1.0,"side":"left"}}"#, "none"),
-        (br#"{"answer":{"question":1e0,"side":"left"}}"#, "none"),
-        (br#"{"answer":{"question":-1,"side":"left"}}"#, "none"),
-        (
-            br#"{"answer":{"question":4294967296,"side":"left"}}"#,
-            "none",
-        ),
-        (
-            br#"{"hello":{"code":"k1","desk":18446744073709551616,"name":"ana"}}"#,
-            "none",
-        ),
-        // a surrogate that stands alone, bytes that aren't UTF-8, and a value that is overwritten but too large for any number
-        (
-            br#"{"hello":{"code":"\ud83d","desk":1,"name":"ana"}}"#,
-            "none",
-        ),
-        (b"{\"ask\":\"\xff\"}", "none"),
-        (br#"{"ask":1e999,"ask":"next"}"#, "none"),
     ];
     for (line, word) in table {
         assert!(rt; read(rt.alloc(), line)? == word, "{line:?}");
+    }
+    Ok(())
+}
+
+#[test]
+fn lines_that_are_no_message(rt: HostRuntime) -> Result<(), Fail> {
+    let lines: [&[u8]; 22] = [
+        // other names, numbers of members, types and words
+        br#"{"ask":"next","answer":{"question":1,"side":"left"}}"#,
+        br#"{"ask":"nexT"}"#,
+        br#"{"Ask":"next"}"#,
+        br#"{"ask":null}"#,
+        br#"["ask"]"#,
+        br#"{}"#,
+        br#""#,
+        br#"hi"#,
+        br#"{"ask":"next"} {"ask":"next"}"#,
+        br#"{"answer":{"question":"1","side":"left"}}"#,
+        br#"{"answer":{"question":1,"side":"up"}}"#,
+        br#"{"answer":{"question":1,"side":"left","more":1}}"#,
+        br#"{"hello":{"code":"k1","desk":1}}"#,
+        br#"{"hello":{"code":"k1","desk":"1","name":"ana"}}"#,
+        // numbers that aren't whole, are below 0, or too large
+        br#"{"answer":{"question":1.0,"side":"left"}}"#,
+        br#"{"answer":{"question":1e0,"side":"left"}}"#,
+        br#"{"answer":{"question":-1,"side":"left"}}"#,
+        br#"{"answer":{"question":4294967296,"side":"left"}}"#,
+        br#"{"hello":{"code":"k1","desk":18446744073709551616,"name":"ana"}}"#,
+        // a surrogate that stands alone, bytes that aren't UTF-8, and a value that is overwritten but too large for any number
+        br#"{"hello":{"code":"\ud83d","desk":1,"name":"ana"}}"#,
+        b"{\"ask\":\"\xff\"}",
+        br#"{"ask":1e999,"ask":"next"}"#,
+    ];
+    for line in lines {
+        assert!(rt; read(rt.alloc(), line)? == "none", "{line:?}");
     }
     Ok(())
 }
