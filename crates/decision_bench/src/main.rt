@@ -4,16 +4,15 @@
 //! dictionary that is loaded anew for each (cold). Without the word `time` it only counts.
 #![tactic(auto)]
 
-mod hidden;
 mod run;
 mod tally;
 
-use crate::hidden::hidden_values;
 use crate::run::{Start, decide_rounds};
 use crate::tally::Tally;
 use criteria_model::Model;
 use decider::Tools;
 use pair_enumeration::Classes;
+use sample_values::hidden_values;
 use std::alloc::Global;
 use std::time::{CpuClock, Duration};
 use std::{env, io};
@@ -48,7 +47,7 @@ fn measure<R: Print + CpuClock>(
     };
     let classes = Classes::list(alloc, &model)?;
     let mut tools = Tools::reserve(alloc, &model)?;
-    let hidden = hidden_values(1, model.increments());
+    let hidden = hidden_values(1, &model);
     let before = rt.thread_cpu_time()?;
     let mut tally = Tally::none();
     decide_rounds(&classes, &hidden, start, rounds, &mut tools, &mut tally);

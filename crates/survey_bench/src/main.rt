@@ -5,8 +5,8 @@
 #![tactic(auto)]
 
 mod counts;
-mod draws;
 mod exchanges;
+mod hidden;
 mod orders;
 mod output;
 mod requests;

@@ -19,7 +19,7 @@ pub enum Task {
 pub struct Order {
     pub task: Task,
     pub shape: Shape,
-    pub seed: u64,
+    pub seed: u32,
 }
 
 impl Order {
@@ -37,7 +37,7 @@ impl Order {
             _ => return None,
         };
         let shape = Shape::numbered(number(words, 1)?)?;
-        let seed = u64::from(number(words, 2)?);
+        let seed = number(words, 2)?;
         Some(Order { task, shape, seed })
     }
 }

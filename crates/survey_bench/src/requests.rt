@@ -1,6 +1,6 @@
 //! What a desk asks of its survey.
-use crate::draws::Draws;
 use criteria_model::Side;
+use sample_values::Draws;
 use std::fmt;
 
 /// A request, which is shown as the line of a message.
@@ -29,7 +29,7 @@ impl Request {
 
 /// One of the last questions, or a number that no question has yet.
 fn random_question(draws: &mut Draws, asked: u32) -> u32 {
-    let back = (draws.draw() % 8) as u32;
+    let back = draws.draw() % 8;
     asked.saturating_add(1).saturating_sub(back)
 }
 

@@ -3,13 +3,13 @@ ghost use Rattle.std.specs.Prelude.{◌≡◌, length};
 ghost use Rattle.criteria_model.specs.Worth.{increments};
 ghost use Rattle.survey_bench.specs.Desks.{IsOf};
 
-use crate::draws::Draws;
 use crate::exchanges::exchange;
 use crate::output::Output;
 use crate::requests::Request;
 use crate::timings::Call;
 use criteria_model::{Model, Vector};
 use json_forms::Reply;
+use sample_values::Draws;
 use std::alloc::Global;
 use std::io;
 use std::time::CpuClock;

@@ -7,14 +7,14 @@ ghost use Rattle.std.specs.Prelude.{◌<◌, ◌≤◌, ◌^◌, length};
 pub struct Shape {
     pub levels: &'static [u32],
     pub degree: u32,
-    pub spread: u64,
+    pub spread: u32,
     ghost sized: { (length levels.now < 2 ^ 32) × (1 ≤ spread) },
 }
 
 impl Shape {
     /// The survey of a number, counted from 1.
     pub fn numbered(number: u32) -> Option<Shape> {
-        let (levels, degree, spread): (&'static [u32], u32, u64) = match number {
+        let (levels, degree, spread): (&'static [u32], u32, u32) = match number {
             1 => (&[2], 1, 1_000),
             2 => (&[25], 1, 1_000),
             3 => (&[2, 2], 2, 1_000),

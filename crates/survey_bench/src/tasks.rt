@@ -2,8 +2,8 @@
 ghost use Rattle.survey_bench.specs.Desks.{IsOf};
 
 use crate::counts::Counts;
-use crate::draws::Draws;
 use crate::exchanges::exchange;
+use crate::hidden::few_values;
 use crate::orders::{Order, Task};
 use crate::output::Output;
 use crate::requests::Request;
@@ -11,6 +11,7 @@ use crate::runs::{answer_all, ask_at_random};
 use crate::timings::Times;
 use criteria_model::Model;
 use edges::StdSink;
+use sample_values::Draws;
 use std::io;
 use std::time::{CpuClock, Duration};
 use survey_replies::Respondent;
@@ -32,7 +33,7 @@ pub fn perform<R: Respondent>(
         Task::Time => (0, false),
     };
     let mut draws = Draws::from_seed(order.seed);
-    let hidden = draws.hidden_values(model.increments(), order.shape.spread);
+    let hidden = few_values(&mut draws, model.increments(), order.shape.spread);
     let mut output = Output::new(rt.alloc(), StdSink::new(rt.stdout()), shows_replies)?;
     if shows_replies {
         write_model(rt, model)?;

@@ -1,7 +1,7 @@
 use Rattle.std.proofs.Common.{◌<◌, ◌^◌, arith, length-take}
 use Rattle.std.specs.Prelude.{unsigned_abs}
 use Rattle.std.proofs.lemmas.List.Elements.{All-take}
-use Rattle.survey_bench.proofs.draws.Draws.hidden_values.Goals as goal
+use Rattle.survey_bench.proofs.hidden.few_values.Goals as goal
 
 pub of-requires : goal.of-requires
 of-requires c = record {

@@ -1,7 +1,7 @@
 -- The values so far are small.
 use Rattle.std.proofs.Common.{◌≡◌, ◌<◌, ◌^◌, length}
 use Rattle.std.specs.Prelude.{All, unsigned_abs}
-use Rattle.decision_bench.proofs.hidden.hidden_values.Given as goal
+use Rattle.survey_bench.proofs.hidden.few_values.Given as goal
 
 abbrev pub invariant-loop-place : goal.invariant-loop-place
 invariant-loop-place l = record {
