@@ -1,34 +1,28 @@
 -- What a turn finds in its state.
-use Rattle.std.proofs.Common.{◌≡◌, ℕ, ◌+◌, ◌-◌, ◌≤◌, List, length, take, All, Some, ap, sym, subst, ◌∙◌, arith}
+use Rattle.std.proofs.Common.{◌≡◌, ℕ, ◌+◌, ◌≤◌, List, length, take, drop, All, Some, ap, sym, subst, ◌∙◌, arith}
 use Rattle.std.specs.Prelude.{ℤ}
+use Rattle.std.proofs.lemmas.List.Elements.{All-take, All-drop}
 use Rattle.criteria_model.specs.declared.pairs.Pair.{Pair}
 use Rattle.criteria_model.specs.declared.pairs.Answer.{Answer}
 use Rattle.criteria_model.specs.declared.pairs.Side.TheVariants.{Left, Right}
 use Rattle.criteria_model.specs.Counts.{class_count}
 use Rattle.criteria_model.specs.Criteria.{Criteria}
 use Rattle.criteria_model.specs.Pairs.{IsFit}
-use Rattle.criteria_model.specs.Answers.{Ranks, MeetsAll, Opens}
+use Rattle.criteria_model.specs.Answers.{Ranks, Meets, MeetsAll, Opens}
 use Rattle.decider.specs.declared.tools.Snapshot.{Snapshot}
 use Rattle.pair_enumeration.specs.Listed.{Listed, IsListed}
-use Rattle.row_laws.proofs.ItemLemmas.{item_positive, item_found, item_within}
+use Rattle.row_laws.proofs.ItemLemmas.{item_positive, item_within}
 use Rattle.survey_core.specs.declared.events.Event.{Event}
 use Rattle.survey_core.specs.Histories.{class_at, committed}
 use Rattle.survey_core.specs.Legal.{IsPlace}
 use Rattle.survey_core.proofs.ListSteps.{some_at, take_whole}
-use Rattle.survey_core.proofs.ReadLemmas.{class_fits}
 use Rattle.survey_state.specs.States.{IsSnapshotOf, IsKept}
+use Rattle.survey_state.proofs.FindingLemmas.{all_met}
 use Rattle.eliminators.specs.Jobs.{IsReadySnapshot}
 
 -- ---- a class by its place
 pub has_place : (listed : Listed) (place : ℕ) (pair : Pair) → class_at listed.classes place ≡ Some pair → IsPlace listed place
 has_place listed place pair class = (item_positive listed.classes place pair class, item_within listed.classes place pair class)
-
-pub pair_fits : (listed now : Listed) (model : Criteria) (place : ℕ) (pair : Pair) → now ≡ listed → IsListed now → model ≡ now.criteria
-    → class_at listed.classes place ≡ Some pair → IsFit model.levels pair
-pair_fits listed now model place pair same is same_model class =
-    let there : class_at now.classes place ≡ Some pair = subst (λ (l : Listed). class_at l.classes place ≡ Some pair) (sym same) class in
-    subst (λ (criteria : Criteria). IsFit criteria.levels pair) (sym same_model)
-    (class_fits now (place - 1) pair is (item_found now.classes place pair there))
 
 -- ---- the answers
 copied_now : (listed : Listed) (journal : List Event) (answers : List Answer) (room missing : ℕ) (snapshot : Snapshot) → IsListed listed
@@ -66,6 +60,40 @@ copied_all listed now journal history answers room missing snapshot same same_jo
     copied_now listed journal answers room missing snapshot here.model here.value here.fit here.few enough copied lacks whole
 
 -- ---- vectors
+front_met : (levels : List ℕ) (answers : List Answer) (known : ℕ) (vector : List ℤ) → MeetsAll levels answers vector
+    → MeetsAll levels (take known answers) vector
+front_met levels answers known vector meets = record { vector = meets.vector; each = All-take (Meets levels vector) known answers meets.each }
+
+pub rest_met : (levels : List ℕ) (answers : List Answer) (known : ℕ) (vector : List ℤ) → MeetsAll levels answers vector
+    → MeetsAll levels (drop known answers) vector
+rest_met levels answers known vector meets = record { vector = meets.vector; each = All-drop (Meets levels vector) known answers meets.each }
+
+pub opens_front : (levels : List ℕ) (earlier answers : List Answer) (known : ℕ) (pair : Pair) (plus minus : List ℤ)
+    → take known earlier ≡ take known answers → Opens levels earlier pair plus minus → Opens levels (take known answers) pair plus minus
+opens_front levels earlier answers known pair plus minus same opens =
+    subst (λ (l : List Answer). Opens levels l pair plus minus) same (record {
+      plus_meets = front_met levels earlier known plus opens.plus_meets;
+      minus_meets = front_met levels earlier known minus opens.minus_meets;
+      more = opens.more;
+      less = opens.less;
+    })
+
+pub opens_all : (levels : List ℕ) (answers : List Answer) (known : ℕ) (pair : Pair) (plus minus : List ℤ)
+    → Opens levels (take known answers) pair plus minus → MeetsAll levels (drop known answers) plus → MeetsAll levels (drop known answers) minus
+    → Opens levels answers pair plus minus
+opens_all levels answers known pair plus minus opens plus_rest minus_rest = record {
+  plus_meets = all_met levels answers known plus opens.plus_meets plus_rest;
+  minus_meets = all_met levels answers known minus opens.minus_meets minus_rest;
+  more = opens.more;
+  less = opens.less;
+}
+
+pub opens_by : (listed now : Listed) (model : Criteria) (answers : List Answer) (pair : Pair) (plus minus : List ℤ) → now ≡ listed → model ≡ now.criteria
+    → Opens listed.criteria.levels answers pair plus minus → Opens model.levels answers pair plus minus
+opens_by listed now model answers pair plus minus same same_model opens =
+    let criteria : model ≡ listed.criteria = same_model ∙ ap (λ (l : Listed). l.criteria) same in
+    subst (λ (c : Criteria). Opens c.levels answers pair plus minus) (sym criteria) opens
+
 kept_now : (listed : Listed) (answers : List Answer) (place met : ℕ) (pair : Pair) (plus minus : List ℤ) → class_at listed.classes place ≡ Some pair
     → met ≡ length answers → Opens listed.criteria.levels answers pair plus minus
     → IsKept listed answers place (record { plus = plus; minus = minus; met = met })

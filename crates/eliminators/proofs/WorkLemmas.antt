@@ -165,6 +165,18 @@ appended listed worker job (Undecided plus minus) found after Recorded is = absu
 appended listed worker job (Undecided plus minus) found after Kept is = none_appended worker found after is.1
 appended listed worker job (Undecided plus minus) found after (Stale broken) is = none_appended worker found after is.2
 
+same_longer : (found after : List Event) → after ≡ found → IsPrefix found after
+same_longer found after is = ([], append-nil found ∙ sym is)
+
+pub handed_in_longer : (listed : Listed) (worker : ℕ) (job : Job) (decision : Decision) (found after : List Event) (answer : HandIn)
+    → IsHandedIn listed worker job decision found after answer → IsPrefix found after
+handed_in_longer listed worker job (Implied verdict combination) found after Recorded is = (Eliminate worker job.place verdict combination ∷ [], sym is.1)
+handed_in_longer listed worker job (Implied verdict combination) found after Kept is = absurd is
+handed_in_longer listed worker job (Implied verdict combination) found after (Stale broken) is = same_longer found after is.1
+handed_in_longer listed worker job (Undecided plus minus) found after Recorded is = absurd is
+handed_in_longer listed worker job (Undecided plus minus) found after Kept is = same_longer found after is.1
+handed_in_longer listed worker job (Undecided plus minus) found after (Stale broken) is = same_longer found after is.2
+
 all_appended : (listed : Listed) (worker : ℕ) (before after : Seen) (answers : List HandIn) → Works listed worker before after answers
     → (more : List ℕ) × (after.own ≡ before.own ++ more) × Each (HasEliminateOf worker after.journal) more
 all_appended listed worker before after [] works = ([], works.own ∙ sym (append-nil before.own), tt)

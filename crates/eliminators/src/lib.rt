@@ -29,3 +29,6 @@ pub use limits::MAX_JOBS;
 pub use line::{JobEnd, job_line};
 pub use state_turns::{hand_in_to, take_from};
 pub use work::{Tally, work_until_idle};
+
+#[cfg(test)]
+mod tests;

@@ -1,7 +1,8 @@
 //! What a bench does to the state of its turn.
-ghost use Rattle.std.specs.Prelude.{◌≡◌, Some, IfSome};
+ghost use Rattle.std.specs.Prelude.{◌≡◌, ◌↔◌, ◌≤◌, length, take, All, Some, IfSome, IsTrue};
 ghost use Rattle.std.specs.Option.{option_map};
-ghost use Rattle.criteria_model.specs.Worth.{IsValueVector};
+ghost use Rattle.criteria_model.specs.Pairs.{IsFit};
+ghost use Rattle.criteria_model.specs.Answers.{Opens};
 ghost use Rattle.answer_rows.specs.Room.{room_of};
 ghost use Rattle.decider.specs.Decisions.{IsDecision};
 ghost use Rattle.decider.specs.Reserved.{IsReservedSnapshot};
@@ -14,12 +15,13 @@ ghost use Rattle.eliminators.specs.Jobs.{IsWorker, IsJob, IsReadySnapshot};
 ghost use Rattle.eliminators.specs.HandIns.{IsHandedIn, ChangesState, IsEliminated, IsKeptOpen};
 
 use crate::job::{HandIn, Job};
-use criteria_model::{Side, Vector};
+use answer_rows::{Answers, common_front};
+use criteria_model::{Model, Pair, Side, Vector};
 use decider::{Decision, Snapshot};
 use farkas_check::Combination;
 use survey_core::{Broken, Event};
 use survey_state::{Offer, State};
-use witness_check::opens;
+use witness_check::meets_from;
 
 /// Gives out the first class that no event ranks and that wasn't given out since the answers changed last, and brings the
 /// snapshot to the answers.
@@ -79,7 +81,7 @@ pub fn hand_in_to(
     ensures listed { state.new.listed ≡ state.old.listed }
 {
     match decision {
-        Decision::Undecided { plus, minus } => keep_open(state, &job, plus, minus),
+        Decision::Undecided { plus, minus } => keep_open(state, &job, snapshot, plus, minus),
         Decision::Implied {
             verdict,
             combination,
@@ -111,20 +113,43 @@ fn eliminate(
 }
 
 /// Keeps two vectors where they open the class by the answers as they are now.
-fn keep_open(state: &mut State, job: &Job, plus: Vector, minus: Vector) -> HandIn
+fn keep_open(
+    state: &mut State,
+    job: &Job,
+    snapshot: &Snapshot,
+    plus: Vector,
+    minus: Vector,
+) -> HandIn
     requires class { class_at state.old.listed.classes job.now.place ≡ Some job.now.pair }
-    requires plus { IsValueVector state.old.listed.criteria.levels plus }
-    requires minus { IsValueVector state.old.listed.criteria.levels minus }
+    requires opens { Opens state.old.listed.criteria.levels snapshot.now.answers.answers job.now.pair plus minus }
     ensures { IsKeptOpen state.old state.new job.now plus minus result }
 {
     let core = state.core();
     let model = core.model();
     let answers = core.answers();
-    if opens(&model, answers, &job.pair, &plus, &minus) {
-        let met = answers.len();
-        state.keep_met(job.place, met, plus, minus);
+    let count = answers.len();
+    let known = common_front(snapshot.answers.as_slice(), answers.as_slice()) as u32;
+    if still_opens(&model, answers, known, &job.pair, &plus, &minus) {
+        state.keep_met(job.place, count, plus, minus);
         HandIn::Kept
     } else {
         HandIn::Stale(Broken::Vectors)
     }
+}
+
+/// Whether two vectors that open the pair by the first `known` answers open it by all of them.
+fn still_opens(
+    model: &Model,
+    answers: &Answers,
+    known: u32,
+    pair: &Pair,
+    plus: &Vector,
+    minus: &Vector,
+) -> bool
+    requires fit { All (λ answer. IsFit model.now.levels answer.pair) answers.now.answers }
+    requires within { known ≤ length answers.now.answers }
+    requires opens { Opens model.now.levels (take known answers.now.answers) pair.now plus.now minus.now }
+    ensures { IsTrue result ↔ Opens model.now.levels answers.now.answers pair.now plus.now minus.now }
+{
+    meets_from(model, answers, known, plus) && meets_from(model, answers, known, minus)
 }
