@@ -1,14 +1,14 @@
 #!/bin/sh
 # Runs a proved bench program three times with the word `time`; surveys of four sizes each time.
 #
-# usage: time.sh turn_bench | pivot_bench | listing_bench | decision_bench | survey_bench
+# usage: time.sh turn_bench | pivot_bench | listing_bench | decision_bench | session_bench | survey_bench
 set -eu
 cd "$(dirname "$0")/.."
 case ${1-} in
-turn_bench | pivot_bench | listing_bench | decision_bench) surveys= ;;
+turn_bench | pivot_bench | listing_bench | decision_bench | session_bench) surveys= ;;
 survey_bench) surveys='16 17 18 19' ;;
 *)
-    echo 'usage: time.sh turn_bench | pivot_bench | listing_bench | decision_bench | survey_bench' >&2
+    echo 'usage: time.sh turn_bench | pivot_bench | listing_bench | decision_bench | session_bench | survey_bench' >&2
     exit 2
     ;;
 esac
