@@ -244,6 +244,11 @@ def changed(data, chance):
     return data
 
 
+def changed_line(line, chance):
+    """A line with one to three changes, none of them a line end."""
+    return changed(line, chance).replace(b"\n", b" ")
+
+
 def main():
     count, names = int(sys.argv[1]), sys.argv[2:]
     chance = random.Random(7)
@@ -265,4 +270,5 @@ def main():
     sys.exit(bool(differing))
 
 
-main()
+if __name__ == "__main__":
+    main()

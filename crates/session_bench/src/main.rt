@@ -1,12 +1,20 @@
-//! Times the messages of sessions in which nothing is to be decided. Without the word `time` it only counts.
+//! Times the messages of sessions in which nothing is to be decided. Without the word `time` it only counts. With the word `talk`
+//! it holds one session, over standard input and output.
 #![tactic(auto)]
 
 mod rounds;
 
+use edges::{StdSink, StdSource};
 use std::time::{Duration, Instant};
 use std::{env, io};
 
 fn main(rt: HostRuntime) -> io::Result<()> {
+    if env::args(&rt)?.any(|word| word.as_str() == "talk") {
+        let mut source = StdSource::new(rt.stdin());
+        let mut sink = StdSink::new(rt.stdout());
+        rounds::talk(rt.alloc(), &mut source, &mut sink)?;
+        return Ok(());
+    }
     let timed = env::args(&rt)?.any(|word| word.as_str() == "time");
     let sessions = if timed { 20 } else { 1 };
     println!(rt; "messages  bytes")?;

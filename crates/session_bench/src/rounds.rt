@@ -1,6 +1,6 @@
 //! What is timed.
 use criteria_model::Model;
-use edges::{Lines, NoMemory, QuietSink, QuietSource, Text};
+use edges::{Lines, NoMemory, QuietSink, QuietSource, Sink, Source, Text};
 use result_file::MAX_LINE;
 use session_protocol::{MAX_MESSAGES, session};
 use std::alloc::Global;
@@ -27,24 +27,28 @@ pub fn hold_sessions(alloc: Global, said: &[u8], sessions: u32) -> Result<u64, N
     Ok(written)
 }
 
-/// Holds a session of a survey with nothing asked, of three criteria with two levels each.
+/// Holds a session of a survey with nothing asked, and returns how many bytes of its replies were written.
 fn hold_session(alloc: Global, said: &[u8]) -> Result<u64, NoMemory> {
+    let mut source = QuietSource::new(alloc, said)?;
+    let mut sink = QuietSink::new(alloc, 2_000_000)?;
+    talk(alloc, &mut source, &mut sink)?;
+    Ok(sink.bytes().len() as u64)
+}
+
+/// Holds a session of a survey with nothing asked, of three criteria with two levels each.
+pub fn talk<S: Source, K: Sink>(
+    alloc: Global,
+    source: &mut S,
+    sink: &mut K,
+) -> Result<(), NoMemory> {
     let Ok(model) = Model::new(&[2, 2, 2], 3) else {
-        return Ok(0);
+        return Ok(());
     };
     let mut solo = Solo::new(alloc, &model)?;
     let mut lines = Lines::reserve(alloc, MAX_LINE)?;
     let mut text = Text::reserve(alloc, MAX_LINE)?;
-    let mut source = QuietSource::new(alloc, said)?;
-    let mut sink = QuietSink::new(alloc, 2_000_000)?;
-    let _end = session(
-        alloc,
-        &mut solo,
-        &model,
-        &mut lines,
-        &mut text,
-        &mut source,
-        &mut sink,
+    session(
+        alloc, &mut solo, &model, &mut lines, &mut text, source, sink,
     );
-    Ok(sink.bytes().len() as u64)
+    Ok(())
 }
