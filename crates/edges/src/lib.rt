@@ -6,8 +6,8 @@
 //! to come, a sink those put so far.
 //!
 //! `MemSource` and `MemSink` are over memory and fail at the calls that a test names; `QuietSource`
-//! and `QuietSink` can't fail; `StdSource` and `StdSink` are the standard ends, which show nothing
-//! and are trusted. `Lines` has one buffer, taken by `reserve`: the longest line, its line end and
+//! and `QuietSink` can't fail; `StdSource` and `StdSink` are the standard ends, and a `TcpDoor` gives the
+//! `TcpEnd`s of connections: these show nothing and are trusted. `Lines` has one buffer, taken by `reserve`: the longest line, its line end and
 //! 64 KiB of read-ahead; a line is a slice of it. `Rest` is what such a reader kept and then its source, as one source. A `Gate` is told of points in the work, at which a `ScriptGate` may hold a test. `Text` has a fixed room. `laws` says that a text
 //! splits into lines in one way.
 #![tactic(auto)]
@@ -21,6 +21,7 @@ mod memory_ends;
 mod quiet_ends;
 mod rest;
 mod standard_ends;
+mod tcp_ends;
 mod text_buffer;
 
 pub use doors::{Door, DoorEnds, MemDoor};
@@ -32,6 +33,7 @@ pub use quiet_ends::{QuietSink, QuietSource};
 pub use rest::Rest;
 pub use standard_ends::{StdSink, StdSource};
 pub use std::alloc::AllocError as NoMemory;
+pub use tcp_ends::{TcpDoor, TcpEnd};
 pub use text_buffer::{Text, put_bytes};
 
 #[cfg(test)]

@@ -6,7 +6,7 @@ use std::io::{ErrorKind, Read, Stdin, Stdout, Write};
 use std::marker::Model;
 
 /// How often an interrupted call is made: once, and 1,000 times again.
-const MOST_CALLS: u32 = 1_001;
+pub(crate) const MOST_CALLS: u32 = 1_001;
 
 /// Standard input.
 #[derive(Drop)]
