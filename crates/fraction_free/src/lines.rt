@@ -105,7 +105,7 @@ impl Line {
 
     /// One number after a pivot on another row, by the pivot's entry, the row's factor and the other
     /// row's number.
-    #[inline]
+    #[inline(always)]
     fn exchange_at(
         &mut self,
         place: usize,
@@ -176,7 +176,7 @@ fn is_same(lead: i128, scale: &Divisor) -> bool
 
 /// The exact quotient by the old scale. Where entry and scale are 1, as in most pivots on rows of few differing
 /// increments, there is nothing to divide.
-#[inline]
+#[inline(always)]
 fn quotient_of(entry: i128, number: i128, factor: i128, other: i128, scale: &Divisor) -> i128
     requires entry_size { unsigned_abs entry < NUMBER_BOUND }
     requires number_size { unsigned_abs number < NUMBER_BOUND }
