@@ -165,7 +165,7 @@ appended listed worker job (Undecided plus minus) found after Recorded is = absu
 appended listed worker job (Undecided plus minus) found after Kept is = none_appended worker found after is.1
 appended listed worker job (Undecided plus minus) found after (Stale broken) is = none_appended worker found after is.2
 
-same_longer : (found after : List Event) → after ≡ found → IsPrefix found after
+pub same_longer : (found after : List Event) → after ≡ found → IsPrefix found after
 same_longer found after is = ([], append-nil found ∙ sym is)
 
 pub handed_in_longer : (listed : Listed) (worker : ℕ) (job : Job) (decision : Decision) (found after : List Event) (answer : HandIn)

@@ -1,4 +1,3 @@
 pub mod StageLemmas
 pub mod SeatLemmas
-pub mod BenchLemmas
 pub mod Crosses

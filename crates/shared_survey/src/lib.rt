@@ -22,6 +22,7 @@ mod survey;
 
 pub use bench::{BenchAbout, SurveyBench};
 pub use desk::Desk;
+pub use eliminators::{hand_in_to, take_from};
 pub use pass::{Front, Pass};
 pub use pass_access::PassAbout;
 pub use survey::Survey;

@@ -28,7 +28,7 @@ pub struct Survey {
 
 /// What passes are made of, and what they come to.
 impl Survey {
-    ghost use Rattle.shared_survey.specs.Passes.{IsPassOf, StaysPass, desk_of, pass_seen, pass_weight, survey_listed, survey_weight};
+    ghost use Rattle.shared_survey.specs.Passes.{IsPassOf, desk_of, pass_seen, pass_weight, survey_listed, survey_weight};
 
     /// A survey with nothing asked, and a pass of no desk that has all its weight: it can be split into so many.
     ///

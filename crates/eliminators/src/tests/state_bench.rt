@@ -1,7 +1,6 @@
 //! A bench over a state without a lock.
 ghost use Rattle.std.specs.Prelude.{◌≡◌, length};
 ghost use Rattle.std.specs.List.{range_with_len};
-ghost use Rattle.eliminators.specs.Jobs.{IsWorker};
 
 use crate::{Bench, HandIn, Job, hand_in_to, take_from};
 use decider::{Decision, Snapshot};
@@ -25,6 +24,7 @@ pub struct StateBench {
 }
 
 impl StateBench {
+    /// A bench of this state, at which nothing was taken yet.
     pub fn new(state: State) -> StateBench
         ensures { result.state ≡ state }
     {
