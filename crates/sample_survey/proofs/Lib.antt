@@ -1,0 +1,4 @@
+pub mod SummaryLemmas
+pub mod RunLemmas
+pub mod SampleLemmas
+pub mod SamplingLemmas
