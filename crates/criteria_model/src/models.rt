@@ -48,7 +48,7 @@ impl std::marker::Model for Model {
 
     ghost inverse = { λ c. record { counts = c.levels; limit = c.degree; steps = increments c.levels; classes = class_count c.levels c.degree } };
 
-    ghost use Rattle.std.proofs.Common.{sym, refl};
+    ghost use Rattle.std.proofs.Common.{sym};
 
     ghost inverse_ok = { λ m h i. record {
       counts = m.counts;

@@ -1,5 +1,5 @@
 //! The answers for which a dictionary stands.
-ghost use Rattle.std.specs.Prelude.{ℕ, ◌≡◌, ◌≤◌, ◌+◌, ◌*◌, length, take, All, MatchOption};
+ghost use Rattle.std.specs.Prelude.{ℕ, ◌≤◌, ◌+◌, length, take, All, MatchOption};
 ghost use Rattle.criteria_model.specs.Worth.{increments};
 ghost use Rattle.criteria_model.specs.Pairs.{IsFit};
 ghost use Rattle.fraction_free.specs.Dictionary.{IsDictionary};

@@ -1,5 +1,5 @@
 //! What a decision works with, and the way to a decision that looks first and solves last.
-ghost use Rattle.std.specs.Prelude.{List, ◌≡◌, [], replicate, IfOk, IfSome, All, pos};
+ghost use Rattle.std.specs.Prelude.{◌≡◌, [], replicate, IfOk, IfSome, All, pos};
 ghost use Rattle.criteria_model.specs.Worth.{increments};
 ghost use Rattle.criteria_model.specs.Pairs.{IsFit};
 ghost use Rattle.criteria_model.specs.Answers.{Ranks, MeetsAll, Opens};

@@ -1,11 +1,11 @@
 //! Vectors that are known to meet answers.
-ghost use Rattle.std.specs.Prelude.{ℤ, ◌≡◌, ◌≢◌, ◌↔◌, ◌+◌, ◌≤◌, ◌<◌, List, [], length, slice_get, take, IsTrue, IfOk, IfSome, All, Some, pos, ◌<ℤ◌};
+ghost use Rattle.std.specs.Prelude.{ℤ, ◌≡◌, ◌≢◌, ◌+◌, ◌≤◌, ◌<◌, [], length, slice_get, IsTrue, IfOk, IfSome, All, Some, pos, ◌<ℤ◌};
 ghost use Rattle.criteria_model.specs.declared.pairs.Side.TheVariants.{Equal};
 ghost use Rattle.row_laws.specs.Rows.{dot};
 ghost use Rattle.criteria_model.specs.Worth.{increments, IsValueVector};
 ghost use Rattle.criteria_model.specs.Pairs.{IsFit};
 ghost use Rattle.criteria_model.specs.Answers.{Ranks, Meets, MeetsAll};
-ghost use Rattle.answer_rows.specs.Room.{room_of, BeginsWith};
+ghost use Rattle.answer_rows.specs.Room.{BeginsWith};
 ghost use Rattle.simplex.specs.Rows.{IsCoprime};
 ghost use Rattle.decider.specs.declared.witnesses.Witness.{Witness};
 ghost use Rattle.decider.specs.Witnesses.{IsGaining};

@@ -1,6 +1,6 @@
 //! A run of decisions along answers.
 ghost use Rattle.std.specs.Prelude.{◌≡◌, ◌-◌, ◌≤◌, length, All, IfSome, pos, ◌≤ℤ◌};
-ghost use Rattle.criteria_model.specs.Worth.{increments, IsValueVector};
+ghost use Rattle.criteria_model.specs.Worth.{increments};
 ghost use Rattle.criteria_model.specs.Pairs.{IsFit};
 ghost use Rattle.criteria_model.specs.Answers.{MeetsAll};
 ghost use Rattle.decider.specs.Decisions.{IsDecision};

@@ -1,5 +1,5 @@
 //! Lines of a source, one at a time and without a copy.
-ghost use Rattle.std.specs.Prelude.{◌≡◌, ◌≢◌, ℕ, List, Option, ◌+◌, ◌-◌, ◌<◌, ◌≤◌, [], ◌++◌, ◌∷◌, length, take, drop, slice_range, IfOk, OnOk, OnErr, Some, vec_len};
+ghost use Rattle.std.specs.Prelude.{◌≡◌, ◌≢◌, ℕ, List, Option, ◌+◌, ◌-◌, ◌<◌, ◌≤◌, [], ◌++◌, length, take, drop, slice_range, IfOk, OnOk, OnErr, Some, vec_len};
 ghost use Rattle.edges.specs.Faults.{CountsFaults, HasRisen};
 ghost use Rattle.edges.specs.Line.{HasLineEnd, HasNoLineEnd};
 ghost use Rattle.edges.specs.Lines.{Gives, GivesLine, IsFirstLineEnd, IsLineEndWithin, KeepsLimits, ahead, limited, new_lines};

@@ -1,6 +1,6 @@
 //! The parts of a proof, each tested over the whole combination.
-ghost use Rattle.std.specs.Prelude.{◌≡◌, ◌↔◌, ◌≤◌, length, All, IsTrue, pos, ◌≤ℤ◌};
-ghost use Rattle.criteria_model.specs.declared.pairs.Side.TheVariants.{Left, Right, Equal};
+ghost use Rattle.std.specs.Prelude.{◌↔◌, IsTrue};
+ghost use Rattle.criteria_model.specs.declared.pairs.Side.TheVariants.{Equal};
 ghost use Rattle.farkas_check.specs.Sums.{cited_side};
 ghost use Rattle.farkas_check.specs.Proof.{MayWeigh, IsStrict, IsThere, HasNonnegativeIncrements, HasCited, HasWeights, HasStrict, IsStrictEnough};
 

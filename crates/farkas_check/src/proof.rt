@@ -1,4 +1,4 @@
-ghost use Rattle.std.specs.Prelude.{◌≡◌, ◌↔◌, ◌^◌, ◌<◌, length, All, IsTrue, unsigned_abs};
+ghost use Rattle.std.specs.Prelude.{◌≡◌, ◌↔◌, ◌<◌, length, All, IsTrue, unsigned_abs};
 ghost use Rattle.criteria_model.specs.Worth.{increments};
 ghost use Rattle.criteria_model.specs.Pairs.{IsFit};
 ghost use Rattle.farkas_check.specs.Flaws.{IsFirstFlaw};

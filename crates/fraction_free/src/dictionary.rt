@@ -1,5 +1,5 @@
 //! The dictionary.
-ghost use Rattle.std.specs.Prelude.{◌≡◌, ◌≢◌, ◌↔◌, ◌⊎◌, ℕ, ◌+◌, ◌-◌, ◌<◌, ◌≤◌, length, IfOk, slice_index, Contains, ℤ, pos};
+ghost use Rattle.std.specs.Prelude.{◌≡◌, ◌≢◌, ◌↔◌, ◌⊎◌, ℕ, ◌+◌, ◌-◌, ◌<◌, ◌≤◌, length, IfOk, slice_index, ℤ, pos};
 
 use crate::NoMemory;
 use crate::limits::MAX_ROWS;

@@ -1,5 +1,5 @@
 //! The line of a new row in the terms of the present basic variables.
-ghost use Rattle.std.specs.Prelude.{◌≡◌, ◌⊎◌, ℕ, ◌+◌, ◌<◌, ◌≤◌, ◌^◌, List, length, slice_index, slice_index_or, [], ℤ, pos, unsigned_abs};
+ghost use Rattle.std.specs.Prelude.{◌≡◌, ◌⊎◌, ℕ, ◌+◌, ◌<◌, ◌≤◌, ◌^◌, List, length, slice_index_or, [], pos, unsigned_abs};
 ghost use Rattle.criteria_model.specs.Lists.{IsRow};
 ghost use Rattle.minors.specs.Combination.{IsCombination};
 ghost use Rattle.fraction_free.specs.declared.loaded.LoadedRow.{LoadedRow};

@@ -1,5 +1,5 @@
 //! How the list of all classes is made: a walk over the criteria, which gives each its two levels or cancels it.
-ghost use Rattle.std.specs.Prelude.{◌≡◌, ℕ, ◌+◌, ◌-◌, ◌<◌, ◌≤◌, ◌++◌, [], ◌∷◌, length, take, drop, All, OnOk, IfOk, slice_index};
+ghost use Rattle.std.specs.Prelude.{◌≡◌, ◌+◌, ◌-◌, ◌<◌, ◌≤◌, ◌++◌, [], ◌∷◌, length, take, All, OnOk, IfOk, slice_index};
 ghost use Rattle.criteria_model.specs.declared.pairs.Pair.{Pair};
 ghost use Rattle.pair_enumeration.specs.declared.walks.Stage.{Stage};
 ghost use Rattle.pair_enumeration.specs.declared.walks.Walk.{Walk};

@@ -1,6 +1,6 @@
 //! A whole shared out over a list of numbers by the largest remainders.
-ghost use Rattle.std.specs.Prelude.{◌≡◌, ◌*◌, ◌-◌, ◌^◌, ◌<◌, ◌≤◌, Some, All, length, sum, slice_get};
-ghost use Rattle.part_worths.specs.Apportionment.{IsShares, shares_of, remainder, remainders, rounded_down as part_of, missing as missing_of, count_before as places_before, is_before as comes_before};
+ghost use Rattle.std.specs.Prelude.{◌≡◌, ◌*◌, ◌-◌, ◌^◌, ◌<◌, ◌≤◌, Some, length, sum, slice_get};
+ghost use Rattle.part_worths.specs.Apportionment.{IsShares, shares_of, remainders, rounded_down as part_of, missing as missing_of, count_before as places_before, is_before as comes_before};
 
 use criteria_model::MAX_INCREMENTS;
 use std::marker::Model;

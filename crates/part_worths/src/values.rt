@@ -1,5 +1,5 @@
 //! The values of a model's levels.
-ghost use Rattle.std.specs.Prelude.{◌≡◌, ◌-◌, ◌^◌, ◌<◌, ◌≤◌, ◌+◌, ◌*◌, All, length, slice_index, sum, unsigned_abs};
+ghost use Rattle.std.specs.Prelude.{◌≡◌, ◌-◌, ◌<◌, ◌≤◌, ◌+◌, ◌*◌, All, length, slice_index, sum, unsigned_abs};
 ghost use Rattle.criteria_model.specs.Lists.{IsVector};
 ghost use Rattle.criteria_model.specs.Worth.{IsValueVector};
 ghost use Rattle.part_worths.specs.Apportionment.{shares_of};

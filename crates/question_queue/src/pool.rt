@@ -1,5 +1,5 @@
 //! The pool of a survey's classes.
-ghost use Rattle.std.specs.Prelude.{◌≡◌, ◌+◌, ◌-◌, ◌≤◌, min, if◌then◌else◌, Some, length, slice_get, slice_set, map, IfOk};
+ghost use Rattle.std.specs.Prelude.{◌≡◌, ◌+◌, ◌-◌, ◌≤◌, min, if◌then◌else◌, Some, length, slice_set, map, IfOk};
 ghost use Rattle.std.specs.List.{position_or_len};
 ghost use Rattle.std.specs.Option.{option_map};
 ghost use Rattle.question_queue.specs.Pools.{new_pool, is_unranked, is_due, is_job, first_place, place_at, ChangesMark, reach_of, as_ranked, as_unranked, as_asked, given_out, kept_at, vectors_of, met_of, cut_kept};

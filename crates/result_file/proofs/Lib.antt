@@ -4,7 +4,6 @@ pub mod OutLemmas
 pub mod FormLemmas
 pub mod JournalLemmas
 pub mod CopyLemmas
-pub mod PointLemmas
 pub mod LoadLemmas
 pub mod EliminationLaws
 pub mod ClaimLaws

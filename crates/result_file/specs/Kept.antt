@@ -1,14 +1,10 @@
 -- What a reader keeps of the claims or events that came.
-use Rattle.std.specs.Prelude.{◌≡◌, ℕ, ◌-◌, ◌<◌, List, [], ◌∷◌, ◌++◌, length, take, ℤ}
-use Rattle.std.specs.List.{filter_map}
+use Rattle.std.specs.Prelude.{◌≡◌, ℕ, ◌<◌, List, [], ◌∷◌, ◌++◌, length}
 use Rattle.criteria_model.specs.declared.pairs.Answer.{Answer}
 use Rattle.criteria_model.specs.Criteria.{Criteria}
 use Rattle.criteria_model.specs.Classes.{IsClass}
 use Rattle.pair_enumeration.specs.Listed.{IsListed}
 use Rattle.survey_core.specs.declared.events.Event.{Event}
-use Rattle.survey_core.specs.declared.events.Event.TheVariants.{Commit, Withdraw}
-use Rattle.survey_core.specs.Histories.{standing}
-use Rattle.survey_core.specs.Laws.{point_of}
 use Rattle.survey_core.specs.Recorded.{Recorded}
 use Rattle.survey_core.specs.declared.limits.TheConstants.{MAX_EVENTS}
 use Rattle.result_file.specs.declared.entries.Format.{Format}
@@ -64,13 +60,3 @@ pub record AddsEvent (old new : KeptSurvey) (line : List ℕ) : Type 0 where
   pub history : new.survey.history ≡ old.survey.history ++ event ∷ []
   pub spelled : line ≡ event_line old.survey.listed.classes event
   pub right : AreEvents old.format old.survey → AreEvents new.format new.survey
-
--- the points of the answers that stand
-abbrev pub standing_points : List Event → List (List ℤ)
-standing_points history = filter_map point_of (standing history)
-
--- the same, after one more event
-abbrev pub points_after : List (List ℤ) → Event → List (List ℤ)
-points_after points (Commit desk question side plus minus point) = points ++ point ∷ []
-points_after points (Withdraw desk answer) = take (length points - 1) points
-points_after points _ = points

@@ -1,7 +1,6 @@
-ghost use Rattle.std.specs.Prelude.{◌≡◌, ℕ, ◌+◌, ◌<◌, ◌≤◌, List, [], Option, IfSome, IfOk, IfErr, OnOk};
+ghost use Rattle.std.specs.Prelude.{◌≡◌, ℕ, ◌+◌, ◌<◌, List, [], Option, IfErr, OnOk};
 ghost use Rattle.edges.specs.Faults.{CountsFaults};
 ghost use Rattle.edges.specs.Lines.{GivesLine, ahead};
-ghost use Rattle.edges.specs.Told.{IsAtEnd};
 ghost use Rattle.result_file.specs.Checked.{IsToldChecked};
 ghost use Rattle.result_file.specs.Migrated.{IsAccepted};
 ghost use Rattle.result_file.specs.Progress.{HasCome, ComesFurther, StopsThere, EndsWithPiece};

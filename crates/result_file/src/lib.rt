@@ -24,7 +24,6 @@ mod limits;
 mod line_fields;
 mod loading;
 mod migration;
-mod points;
 mod progress;
 mod results;
 mod stops;

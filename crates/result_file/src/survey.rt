@@ -15,11 +15,11 @@ ghost use Rattle.result_file.specs.Texts.{end_line};
 
 use crate::eliminations::Elimination;
 use crate::entries::{Entry, Format, entry_of};
-use crate::points::{follow, latest};
 use crate::stops::Stop;
 use crate::verdicts::Part;
 use criteria_model::{Model, Vector};
 use std::alloc::Global;
+use survey_core::points::{AnswerPoint, follow, latest};
 use survey_core::{Core, Event, MAX_EVENTS};
 
 /// The history that the events of a result make.
@@ -32,7 +32,7 @@ pub(crate) struct Survey {
     // How many events came.
     count: u32,
     // Those of the answers that stand, since a withdrawal brings an earlier one back; there is room for one a class.
-    points: Vec<Vector>,
+    points: Vec<AnswerPoint>,
 }
 
 impl std::marker::Model for Survey {
@@ -40,7 +40,8 @@ impl std::marker::Model for Survey {
     ghost use Rattle.criteria_model.specs.Worth.{increments as increments_of};
     ghost use Rattle.pair_enumeration.specs.Listed.{IsListed};
     ghost use Rattle.survey_core.specs.declared.limits.TheConstants.{MAX_EVENTS};
-    ghost use Rattle.result_file.specs.Kept.{KeptSurvey, standing_points};
+    ghost use Rattle.survey_core.specs.Points.{standing_points};
+    ghost use Rattle.result_file.specs.Kept.{KeptSurvey};
 
     ghost Value = { KeptSurvey };
 

@@ -1,5 +1,5 @@
 //! The least-index rule's choice.
-ghost use Rattle.std.specs.Prelude.{ℕ, ◌-◌, ◌<◌, ◌≤◌, ◌≡◌, length, MatchOption, pos, ◌<ℤ◌};
+ghost use Rattle.std.specs.Prelude.{◌-◌, ◌<◌, ◌≤◌, length, MatchOption};
 ghost use Rattle.fraction_free.specs.Dictionary.{IsDictionary};
 ghost use Rattle.simplex.specs.Choice.{IsFeasible, IsLeavingRow, IsBlocked, IsEnteringColumn};
 

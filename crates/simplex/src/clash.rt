@@ -1,5 +1,5 @@
 //! The clash of a row that no nonbasic variable helps.
-ghost use Rattle.std.specs.Prelude.{ℕ, ◌≡◌, ◌+◌, ◌-◌, ◌^◌, ◌<◌, ◌≤◌, List, length, count_by, not, All, MatchOption, slice_index_or, ℤ, pos, ◌<ℤ◌, ◌≤ℤ◌, unsigned_abs};
+ghost use Rattle.std.specs.Prelude.{ℕ, ◌≡◌, ◌+◌, ◌-◌, ◌<◌, ◌≤◌, List, length, count_by, not, All, MatchOption, slice_index_or, ℤ, pos, ◌<ℤ◌, unsigned_abs};
 ghost use Rattle.fraction_free.specs.Dictionary.{IsDictionary, constant_in};
 ghost use Rattle.simplex.specs.Rows.{MeetsRows};
 ghost use Rattle.simplex.specs.Weights.{is_weight, AreRowWeights};

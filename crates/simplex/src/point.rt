@@ -1,5 +1,5 @@
 //! The vector of a feasible dictionary.
-ghost use Rattle.std.specs.Prelude.{ℕ, ◌≡◌, All, length, pos, ℤ, ◌≤ℤ◌};
+ghost use Rattle.std.specs.Prelude.{◌≡◌, All, pos, ℤ, ◌≤ℤ◌};
 ghost use Rattle.criteria_model.specs.Lists.{IsVector};
 ghost use Rattle.row_laws.specs.Rows.{times};
 ghost use Rattle.fraction_free.specs.Dictionary.{IsDictionary};

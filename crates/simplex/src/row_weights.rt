@@ -1,5 +1,5 @@
 //! Weights on loaded rows.
-ghost use Rattle.std.specs.Prelude.{◌≡◌, ◌-◌, ◌^◌, ◌<◌, ◌≤◌, List, [], ◌∷◌, ◌++◌, length, All, slice_index_or, pos, ◌<ℤ◌, unsigned_abs};
+ghost use Rattle.std.specs.Prelude.{◌≡◌, ◌-◌, ◌<◌, ◌≤◌, List, [], ◌∷◌, ◌++◌, length, All, slice_index_or, pos, ◌<ℤ◌, unsigned_abs};
 ghost use Rattle.simplex.specs.Weights.{AreRowWeights, no_weight};
 
 use criteria_model::CERTIFICATE_BOUND;

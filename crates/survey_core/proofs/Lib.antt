@@ -13,4 +13,5 @@ pub mod NextTables
 pub mod NextKept
 pub mod PartLemmas
 pub mod FollowLemmas
+pub mod PointLemmas
 pub mod ShortLemmas

@@ -3,6 +3,7 @@ pub mod Histories
 pub mod Parts
 pub mod Legal
 pub mod Laws
+pub mod Points
 pub mod Recorded
 pub mod States
 pub mod Marked

@@ -18,6 +18,7 @@ mod events;
 pub mod laws;
 mod limits;
 mod marks;
+pub mod points;
 mod questions;
 mod survey;
 

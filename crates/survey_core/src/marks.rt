@@ -1,5 +1,5 @@
 //! What a history comes to, kept for each class and each question.
-ghost use Rattle.std.specs.Prelude.{◌≡◌, ◌↔◌, ◌⊎◌, ◌+◌, ◌-◌, ◌^◌, ◌<◌, ◌≤◌, [], ◌∷◌, ◌++◌, Some, None, length, map, replicate, count_by, slice_get, IsTrue, IsFalse, IfOk, MatchOption};
+ghost use Rattle.std.specs.Prelude.{◌≡◌, ◌↔◌, ◌⊎◌, ◌+◌, ◌-◌, ◌<◌, ◌≤◌, [], ◌∷◌, ◌++◌, Some, None, length, map, replicate, count_by, slice_get, IsTrue, IsFalse, IfOk, MatchOption};
 ghost use Rattle.std.specs.Option.{option_map};
 ghost use Rattle.survey_core.specs.declared.marks.Mark.{Mark};
 ghost use Rattle.survey_core.specs.declared.marks.Question.{Question};

@@ -1,8 +1,8 @@
-ghost use Rattle.std.specs.Prelude.{◌≡◌, ◌↔◌, ℕ, ◌-◌, ◌<◌, ◌≤◌, [], ◌∷◌, ◌++◌, Some, length, slice_get, IsTrue, All, IsSomeAnd, IfOk, IsSome, IfSome, MatchResult, MatchOption, unsigned_abs};
+ghost use Rattle.std.specs.Prelude.{◌≡◌, ◌↔◌, ◌-◌, ◌<◌, ◌≤◌, [], ◌∷◌, ◌++◌, Some, length, IsTrue, All, IsSomeAnd, IfOk, IsSome, IfSome, MatchOption, unsigned_abs};
 ghost use Rattle.criteria_model.specs.Worth.{increments, IsValueVector};
 ghost use Rattle.criteria_model.specs.declared.pairs.Answer.{Answer};
 ghost use Rattle.farkas_check.specs.Flaws.{IsFirstFlaw};
-ghost use Rattle.criteria_model.specs.Answers.{Ranks, MeetsAll};
+ghost use Rattle.criteria_model.specs.Answers.{MeetsAll};
 ghost use Rattle.criteria_model.specs.Pairs.{IsFit};
 ghost use Rattle.criteria_model.specs.Classes.{IsClass};
 ghost use Rattle.pair_enumeration.specs.Listed.{IsListed};

@@ -1,4 +1,4 @@
-ghost use Rattle.std.specs.Prelude.{◌≡◌, ℕ, ◌≤◌, List, Some, length, IfOk, OnErr};
+ghost use Rattle.std.specs.Prelude.{◌≡◌, ℕ, ◌≤◌, Some, length, IfOk, OnErr};
 ghost use Rattle.pair_enumeration.specs.Listed.{Listed, IsListed};
 ghost use Rattle.survey_core.specs.Histories.{item_at, class_at};
 ghost use Rattle.survey_core.specs.Legal.{IsDesk, IsPlace, IsLegal};

@@ -10,10 +10,11 @@ use Rattle.survey_core.specs.Kinds.{is_withdraw}
 use Rattle.survey_core.specs.Legal.{IsLegal, MayFollow}
 use Rattle.survey_core.specs.Recorded.{Recorded}
 use Rattle.survey_core.proofs.ShortLemmas.{legal_is_short_lem}
-use Rattle.survey_state.specs.declared.points.AnswerPoint.{AnswerPoint}
-use Rattle.survey_state.specs.States.{HasRoom, room_for_withdrawal, changes_answers, version_of, points_after, KeepsPool, IsLastEvent, KeepsJournal}
+use Rattle.survey_core.specs.declared.points.AnswerPoint.{AnswerPoint}
+use Rattle.survey_core.specs.Points.{points_after}
+use Rattle.survey_state.specs.States.{HasRoom, room_for_withdrawal, changes_answers, version_of, KeepsPool, IsLastEvent, KeepsJournal}
 use Rattle.survey_state.proofs.RoomLemmas.{three_a_class_follow_lem, room_next, some_room}
-use Rattle.survey_state.proofs.PointLemmas.{points_next}
+use Rattle.survey_core.proofs.PointLemmas.{points_next}
 use Rattle.survey_state.proofs.PoolLemmas.{new_kept}
 
 -- the number of changes stays far below the greatest number

@@ -1,7 +1,7 @@
 pub mod RoomLemmas
 pub mod RankedLemmas
 pub mod PoolLemmas
-pub mod PointLemmas
+pub mod AnsweredLemmas
 pub mod JournalLemmas
 pub mod ReplyLemmas
 pub mod FindingLemmas

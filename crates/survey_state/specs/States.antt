@@ -1,6 +1,5 @@
 -- What contracts see of a survey's state, and what its type keeps.
 use Rattle.std.specs.Prelude.{◌≡◌, ℕ, ◌+◌, ◌-◌, ◌*◌, ◌<◌, ◌≤◌, Bool, ◌||◌, IsFalse, List, [], ◌∷◌, ◌++◌, length, map, take, count_by, slice_get, slice_set, Option, Some, None, IfSome, IsSomeAnd, ℤ}
-use Rattle.std.specs.List.{filter_map}
 use Rattle.criteria_model.specs.declared.pairs.Answer.{Answer}
 use Rattle.criteria_model.specs.declared.pairs.Side.TheVariants.{Left, Right}
 use Rattle.criteria_model.specs.Worth.{IsValueVector}
@@ -13,12 +12,13 @@ use Rattle.question_queue.specs.Pools.{Pooled, given_out, cut_kept}
 use Rattle.survey_core.specs.declared.events.Event.{Event}
 use Rattle.survey_core.specs.declared.events.Event.TheVariants.{Commit, Withdraw}
 use Rattle.survey_core.specs.Kinds.{is_commit, is_withdraw}
-use Rattle.survey_core.specs.Histories.{standing, is_issued, class_at, committed, is_ranked, withdrawals}
+use Rattle.survey_core.specs.Histories.{is_issued, class_at, committed, is_ranked, withdrawals}
 use Rattle.survey_core.specs.Legal.{IsPlace, IsUnranked, AreEarlierAsked, MayFollow, FailsFirst, IsLegal}
 use Rattle.survey_core.specs.Laws.{last_point}
+use Rattle.survey_core.specs.declared.points.AnswerPoint.{AnswerPoint}
+use Rattle.survey_core.specs.Points.{standing_points}
 use Rattle.survey_core.specs.Recorded.{Recorded}
 use Rattle.survey_replies.specs.Records.{AreEarlierRanked}
-use Rattle.survey_state.specs.declared.points.AnswerPoint.{AnswerPoint}
 use Rattle.survey_state.specs.declared.offer.Offer.{Offer}
 use Rattle.survey_state.specs.declared.offer.Offer.TheVariants.{Done, Stale}
 
@@ -148,23 +148,12 @@ pub record AreMarkedUpTo (core : Recorded) (count : ℕ) (marks : List Mark) : T
 abbrev pub as_said : Bool → Mark → Mark
 as_said said mark = record mark { ranked = said }
 
--- the point of a Commit, and its question
-abbrev pub answer_point : Event → Option AnswerPoint
-answer_point (Commit desk question side plus minus point) = Some (record { question = question; point = point })
-answer_point _ = None
-
--- those of the standing Commits, after one more event
-abbrev pub points_after : List AnswerPoint → Event → List AnswerPoint
-points_after points (Commit desk question side plus minus point) = points ++ record { question = question; point = point } ∷ []
-points_after points (Withdraw desk answer) = take (length points - 1) points
-points_after points _ = points
-
 -- what a `State` keeps of its journal
 pub record KeepsJournal (core : Recorded) (journal : List Event) (points : List AnswerPoint) (pool : Pooled) (version room_for_points spare : ℕ) : Type 0 where
   pub model : IsListed core.listed
   pub legal : IsLegal core.listed journal
   pub history : core.history ≡ journal
-  pub points_of : points ≡ filter_map answer_point (standing journal)
+  pub points_of : points ≡ standing_points journal
   pub enough : length core.listed.classes ≤ room_for_points
   pub pool_of : KeepsPool core.listed journal pool
   pub changes : version ≡ version_of journal

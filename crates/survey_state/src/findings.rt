@@ -1,5 +1,5 @@
 //! What is found out of a class, beside the turns of a call.
-ghost use Rattle.std.specs.Prelude.{◌≡◌, ◌∷◌, ◌++◌, [], ◌≤◌, length, take, All, IsTrue};
+ghost use Rattle.std.specs.Prelude.{◌≡◌, ◌∷◌, ◌++◌, [], All, IsTrue};
 ghost use Rattle.criteria_model.specs.Pairs.{IsFit};
 ghost use Rattle.criteria_model.specs.Answers.{MeetsAll, Opens};
 ghost use Rattle.decider.specs.Standing.{KeepsRoom};

@@ -1,6 +1,5 @@
 //! A state as the journal of its survey.
 ghost use Rattle.std.specs.Prelude.{[]};
-ghost use Rattle.survey_replies.specs.Calls.{Seen};
 
 use crate::state::State;
 use criteria_model::Pair;

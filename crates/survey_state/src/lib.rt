@@ -31,7 +31,6 @@ mod journal;
 pub mod laws;
 mod next;
 mod offer;
-mod points;
 mod pool;
 mod recording;
 mod solo;

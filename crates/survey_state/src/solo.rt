@@ -1,10 +1,8 @@
 //! A survey of one desk.
-ghost use Rattle.std.specs.Prelude.{◌≡◌, ℕ, List, [], length, Option, IfOk, IfSome};
+ghost use Rattle.std.specs.Prelude.{◌≡◌, [], length, Option, IfOk};
 ghost use Rattle.std.specs.List.{range_with_len};
 ghost use Rattle.decider.specs.Reserved.{IsReserved};
-ghost use Rattle.pair_enumeration.specs.Listed.{Listed, IsListed};
-ghost use Rattle.survey_core.specs.Legal.{IsLegal};
-ghost use Rattle.survey_replies.specs.Calls.{Seen};
+ghost use Rattle.pair_enumeration.specs.Listed.{IsListed};
 ghost use Rattle.survey_state.specs.Solos.{held_state, journal_out};
 
 use crate::access::Access;
@@ -71,7 +69,6 @@ pub struct Solo {
 
 // Clauses see the model with its classes, and the journal.
 impl std::marker::Model for Solo {
-    ghost use Rattle.std.specs.Prelude.{IsSome};
     ghost use Rattle.survey_core.specs.Recorded.{Recorded};
     ghost use Rattle.survey_state.specs.Solos.{held_state, KeepsSolo};
 

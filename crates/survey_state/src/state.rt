@@ -1,5 +1,5 @@
 //! The state of a survey.
-ghost use Rattle.std.specs.Prelude.{◌≡◌, ◌≢◌, ◌+◌, ◌*◌, ◌≤◌, [], length, take, IsTrue, IsFalse, IfOk, IfSome, OnOk, OnErr, MatchOption, if◌then◌else◌};
+ghost use Rattle.std.specs.Prelude.{◌≡◌, ◌≢◌, ◌+◌, ◌*◌, ◌≤◌, [], length, take, IsTrue, IfOk, IfSome, OnOk, OnErr, MatchOption, if◌then◌else◌};
 ghost use Rattle.pair_enumeration.specs.Listed.{IsListed};
 ghost use Rattle.criteria_model.specs.Answers.{MeetsAll};
 ghost use Rattle.answer_rows.specs.Room.{room_of};
@@ -12,13 +12,13 @@ ghost use Rattle.survey_replies.specs.Interview.{answered};
 ghost use Rattle.survey_state.specs.States.{Surveyed, changes_answers as changes, version_of, room_for_withdrawal, IsOffered, IsAppended, IsSnapshotOf, IsFirstUnranked, IsFirstDue, RankOppositely, IsKept, with_pool, with_given, with_kept};
 
 use crate::offer::Offer;
-use crate::points::{AnswerPoint, follow, last_question, latest};
 use crate::pool::mark;
 use answer_rows::common_front;
 use criteria_model::{Model, Vector};
 use decider::Snapshot;
 use question_queue::{Kept, Pool};
 use std::alloc::{AllocError as NoMemory, Global};
+use survey_core::points::{AnswerPoint, follow, last_question, latest};
 use survey_core::{Core, Event, MAX_EVENTS};
 
 /// A survey in memory: a legal journal and what it comes to. Memory is taken by `new` and `make_room` only.

@@ -1,4 +1,4 @@
-ghost use Rattle.std.specs.Prelude.{◌≡◌, ◌↔◌, ℕ, ◌-◌, ◌<◌, ◌≤◌, List, [], ◌++◌, length, drop, Option, IsTrue, IfNone, IfSome, if◌then◌else◌};
+ghost use Rattle.std.specs.Prelude.{◌≡◌, ◌↔◌, ℕ, ◌-◌, ◌<◌, ◌≤◌, List, [], length, drop, Option, IsTrue, IfNone, IfSome, if◌then◌else◌};
 ghost use Rattle.text_fields.specs.Spelling.{IsCertificate, is_next};
 ghost use Rattle.text_fields.specs.Reading.{ReadsAs, ReadsListAs, read_word, read_number, read_certificate, read_list};
 

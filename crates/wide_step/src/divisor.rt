@@ -1,5 +1,5 @@
 //! Many exact steps with one divisor.
-ghost use Rattle.std.specs.Prelude.{◌≡◌, ℕ, ◌<◌, ◌^◌, ℤ, pos, ◌*ℤ◌, ◌-ℤ◌, ◌≤ℤ◌, ◌↔◌, unsigned_abs, IsTrue, IfSome};
+ghost use Rattle.std.specs.Prelude.{◌≡◌, ◌<◌, ◌^◌, ℤ, pos, ◌*ℤ◌, ◌-ℤ◌, ◌≤ℤ◌, ◌↔◌, unsigned_abs, IsTrue};
 
 use crate::inverse::Inverse;
 use crate::limits::{FACTOR_BOUND, QUOTIENT_BOUND};

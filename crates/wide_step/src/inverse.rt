@@ -1,5 +1,5 @@
 //! Divisions that leave no remainder, by a shift and a product (Granlund and Montgomery 1994).
-ghost use Rattle.std.specs.Prelude.{◌≡◌, ◌≢◌, ℕ, ◌+◌, ◌*◌, ◌%◌, ◌<◌, ◌^◌, ℤ, pos, ◌*ℤ◌, unsigned_abs};
+ghost use Rattle.std.specs.Prelude.{◌≡◌, ℕ, ◌+◌, ◌*◌, ◌%◌, ◌<◌, ◌^◌, ℤ, pos, ◌*ℤ◌, unsigned_abs};
 ghost use Rattle.std.specs.Int.{w64, w128, int_wrap};
 ghost use Rattle.wide_step.specs.Inverse.{HasInverse, IsInverseUpTo};
 

@@ -1,5 +1,4 @@
 ghost use Rattle.std.specs.Prelude.{◌≡◌, ◌<◌, ◌*ℤ◌, ◌-ℤ◌, unsigned_abs};
-ghost use Rattle.wide_step.specs.Quotient.{HasQuotient};
 
 use super::*;
 use std::process::Abort;

@@ -1,6 +1,5 @@
-ghost use Rattle.std.specs.Prelude.{◌≡◌, IsTrue};
+ghost use Rattle.std.specs.Prelude.{IsTrue};
 ghost use Rattle.criteria_model.specs.Worth.{IsValueVector};
-ghost use Rattle.survey_core.specs.Kinds.{is_withdraw};
 ghost use Rattle.survey_core.specs.Legal.{IsEvent, IsPlace};
 ghost use Rattle.survey_state.specs.States.{RankOppositely};
 

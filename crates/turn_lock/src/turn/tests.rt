@@ -1,7 +1,7 @@
-ghost use Rattle.std.specs.Prelude.{◌≡◌, ℕ, ◌+◌, ◌^◌, ◌<◌, ◌≤◌};
+ghost use Rattle.std.specs.Prelude.{◌≡◌, ◌+◌, ◌^◌, ◌<◌, ◌≤◌};
 ghost use Rattle.std.specs.Thread.{IsSync};
 ghost use mathlib.Core.List.{IsPrefix};
-ghost use Rattle.turn_lock.specs.Seats.{IsOutsideOf, weight, whole_weight};
+ghost use Rattle.turn_lock.specs.Seats.{IsOutsideOf, weight};
 
 use super::SERVING;
 use crate::{Journalled, Turn, TurnSeat};

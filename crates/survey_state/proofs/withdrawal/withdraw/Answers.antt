@@ -5,7 +5,7 @@ use Rattle.survey_core.specs.declared.events.Event.TheVariants.{Withdraw}
 use Rattle.survey_core.specs.Histories.{committed, withdrawals}
 use Rattle.survey_core.specs.Legal.{IsSpent, MayFollow}
 use Rattle.survey_core.proofs.PartLemmas.{allowed_lacks_none_lem}
-use Rattle.survey_state.proofs.PointLemmas.{none_answered, some_answered}
+use Rattle.survey_state.proofs.AnsweredLemmas.{none_answered, some_answered}
 use Rattle.survey_state.proofs.ReplyLemmas.{nothing, spent, withdrawn, may_withdraw, same_answers_len, same_spent, is_false_of}
 use Rattle.survey_state.proofs.withdrawal.withdraw.Goals as goal
 

@@ -9,10 +9,12 @@ use Rattle.result_file.specs.Stops.{StopsAt}
 use Rattle.result_file.specs.declared.stops.Stop.TheVariants.{Wrong}
 use Rattle.result_file.specs.Contents.{of_events}
 use Rattle.result_file.specs.Entries.{ReadsEntry}
-use Rattle.result_file.specs.Kept.{KeptSurvey, AddsEvent, standing_points, points_after}
+use Rattle.survey_core.specs.declared.points.AnswerPoint.{AnswerPoint}
+use Rattle.survey_core.specs.Points.{standing_points, points_after}
+use Rattle.result_file.specs.Kept.{KeptSurvey, AddsEvent}
 use Rattle.result_file.specs.Texts.{end_line}
 use Rattle.result_file.proofs.EventLaws.{not_allowed, adds_event}
-use Rattle.result_file.proofs.PointLemmas.{points_next, points_room}
+use Rattle.survey_core.proofs.PointLemmas.{points_next, points_room}
 use Rattle.result_file.proofs.survey.Survey.add.Goals as goal
 
 pub returns-in-Err-clause-failed : goal.returns-in-Err-clause-failed
@@ -43,7 +45,7 @@ invariant_of-self c =
       few = omega (arith, c.if-self-ge-MAX_EVENTS.false);
       points =
           c.follow.ensures.items
-          ∙ ap (λ (points : List (List ℤ)). points_after points event) c.self.invariant.points
+          ∙ ap (λ (points : List AnswerPoint). points_after points event) c.self.invariant.points
           ∙ sym (points_next c.self.inside.core.history event)
           ∙ ap standing_points (sym c.apply.ensures.history);
       room = omega (arith, c.self.invariant.room, c.follow.ensures.capacity, ap (λ (l : Listed). length l.classes) c.apply.ensures.listed);
@@ -59,6 +61,6 @@ follow-requires c commits =
       arith,
       size,
       points_room c.self.inside.core.listed c.self.inside.core.history event c.self.invariant.listed legal commits,
-      ap (λ (points : List (List ℤ)). length points) c.self.invariant.points,
+      ap (λ (points : List AnswerPoint). length points) c.self.invariant.points,
       c.self.invariant.room,
     )

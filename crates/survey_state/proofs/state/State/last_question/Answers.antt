@@ -2,9 +2,9 @@ use Rattle.std.proofs.Common.{length, List, ap, ◌∙◌}
 use Rattle.std.specs.Option.{option_map}
 use Rattle.survey_core.specs.Histories.{item_at}
 use Rattle.survey_replies.specs.Interview.{answered}
-use Rattle.survey_state.specs.declared.points.AnswerPoint.{AnswerPoint}
+use Rattle.survey_core.specs.declared.points.AnswerPoint.{AnswerPoint}
 use Rattle.survey_state.specs.States.{Surveyed}
-use Rattle.survey_state.proofs.PointLemmas.{last_question_is}
+use Rattle.survey_state.proofs.AnsweredLemmas.{last_question_is}
 use Rattle.survey_state.proofs.state.State.last_question.Goals as goal
 
 pub returns : goal.returns

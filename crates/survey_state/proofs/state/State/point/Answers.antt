@@ -6,9 +6,9 @@ use Rattle.criteria_model.specs.Answers.{MeetsAll}
 use Rattle.survey_core.specs.Histories.{committed}
 use Rattle.survey_core.specs.Laws.{last_point}
 use Rattle.survey_core.proofs.LawLemmas.{last_point_meets_lem}
-use Rattle.survey_state.specs.declared.points.AnswerPoint.{AnswerPoint}
+use Rattle.survey_core.specs.declared.points.AnswerPoint.{AnswerPoint}
 use Rattle.survey_state.specs.States.{Surveyed}
-use Rattle.survey_state.proofs.PointLemmas.{latest_is}
+use Rattle.survey_core.proofs.PointLemmas.{latest_is}
 use Rattle.survey_state.proofs.state.State.point.Goals as goal
 
 pub returns-clause-value : goal.returns-clause-value

@@ -1,10 +1,10 @@
 use Rattle.std.proofs.Common.{◌≡◌, ◌≤◌, IsTrue, List, length, vec_len, ap, sym, subst, rules, arith}
 use Rattle.survey_core.specs.Kinds.{is_withdraw}
 use Rattle.survey_core.specs.Legal.{MayFollow}
-use Rattle.survey_state.specs.declared.points.AnswerPoint.{AnswerPoint}
+use Rattle.survey_core.specs.declared.points.AnswerPoint.{AnswerPoint}
 use Rattle.survey_state.specs.States.{Surveyed, room_for_withdrawal}
 use Rattle.survey_state.proofs.JournalLemmas.{few_changes, room_now, legal_next, last_event, keeps_next, keeps_as}
-use Rattle.survey_state.proofs.PointLemmas.{points_room}
+use Rattle.survey_core.proofs.PointLemmas.{points_room}
 use Rattle.survey_state.proofs.state.State.record.Goals as goal
 
 pub mark-requires : goal.mark-requires

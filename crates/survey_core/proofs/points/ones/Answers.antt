@@ -2,7 +2,7 @@
 use Rattle.std.proofs.Common.{ℕ, pos, replicate, take, ap, ◌∙◌}
 use Rattle.std.proofs.lemmas.List.{take-replicate}
 use Rattle.criteria_model.specs.Worth.{increments}
-use Rattle.survey_state.proofs.points.ones.Goals as goal
+use Rattle.survey_core.proofs.points.ones.Goals as goal
 
 pub returns : goal.returns
 returns c =

@@ -1,31 +1,23 @@
--- The points that a `State` keeps of the answers that stand.
-use Rattle.std.proofs.Common.{◌≡◌, ℕ, zero, suc, ◌+◌, ◌-◌, ◌<◌, ◌≤◌, true, false, List, [], ◌∷◌, ◌++◌, length, map, take, replicate, Option, Some, None, ℤ, pos, append-nil, length-append, refl, ap, sym, ◌∙◌, arith}
+-- The points of the answers that stand.
+use Rattle.std.proofs.Common.{◌≡◌, ℕ, zero, suc, ◌+◌, ◌-◌, ◌<◌, true, false, List, [], ◌∷◌, ◌++◌, length, map, take, replicate, Option, Some, None, ℤ, pos, append-nil, length-append, refl, ap, sym, ◌∙◌, arith}
 use Rattle.std.specs.Option.{option_map}
 use Rattle.std.specs.List.{filter_map, fold, cons_option}
-use Rattle.std.proofs.lemmas.List.{length-map}
 use Rattle.std.proofs.lemmas.List.Elements.{filter_map-append}
-use Rattle.std.proofs.lemmas.Option.{none-some, slice_get-map}
-use Rattle.criteria_model.specs.declared.pairs.Answer.{Answer}
+use Rattle.std.proofs.lemmas.Option.{slice_get-map}
 use Rattle.criteria_model.specs.Worth.{increments}
-use Rattle.row_laws.proofs.ItemLemmas.{item_inside, item_positive}
 use Rattle.pair_enumeration.specs.Listed.{Listed, IsListed}
 use Rattle.survey_core.specs.declared.events.Event.{Event}
 use Rattle.survey_core.specs.declared.events.Event.TheVariants.{Eliminate, Issue, Commit, Close, Withdraw}
+use Rattle.survey_core.specs.declared.points.AnswerPoint.{AnswerPoint}
 use Rattle.survey_core.specs.Kinds.{is_commit}
 use Rattle.survey_core.specs.Histories.{item_at, standing, standing_after, committed}
 use Rattle.survey_core.specs.Legal.{IsLegal}
 use Rattle.survey_core.specs.Laws.{point_of, last_point}
-use Rattle.survey_core.proofs.ListSteps.{Each}
-use Rattle.survey_core.proofs.StandingLemmas.{standing-push, OfCommits, length-filter_map, filter_map-without}
-use Rattle.survey_core.proofs.SoundLemmas.{sound_history, answers_count}
-use Rattle.survey_replies.specs.Interview.{answered_question, answered}
-use Rattle.survey_state.specs.declared.points.AnswerPoint.{AnswerPoint}
-use Rattle.survey_state.specs.States.{answer_point, points_after}
+use Rattle.survey_core.specs.Points.{answer_point, standing_points, points_after}
 use Rattle.survey_core.proofs.FollowLemmas.{few_committed}
-
--- the points of the standing Commits
-abbrev pub points_in : List Event → List AnswerPoint
-points_in history = filter_map answer_point (standing history)
+use Rattle.survey_core.proofs.ListSteps.{Each}
+use Rattle.survey_core.proofs.SoundLemmas.{sound_history, answers_count}
+use Rattle.survey_core.proofs.StandingLemmas.{standing-push, OfCommits, length-filter_map, filter_map-without}
 
 each_point : (events : List Event) → Each (OfCommits answer_point) events
 each_point [] = tt
@@ -48,20 +40,20 @@ points_step events (Withdraw desk answer) =
     filter_map-without answer_point answer events (each_point events)
     ∙ ap (λ n. take (n - 1) (filter_map answer_point events)) (sym (length-filter_map answer_point events (each_point events)))
 
-pub points_next : (history : List Event) (event : Event) → points_in (history ++ event ∷ []) ≡ points_after (points_in history) event
+pub points_next : (history : List Event) (event : Event) → standing_points (history ++ event ∷ []) ≡ points_after (standing_points history) event
 points_next history event = ap (λ events. filter_map answer_point events) (standing-push history event) ∙ points_step (standing history) event
 
-pub points_count : (listed : Listed) (history : List Event) → IsLegal listed history → length (points_in history) ≡ length (committed listed.classes history)
+pub points_count : (listed : Listed) (history : List Event) → IsLegal listed history → length (standing_points history) ≡ length (committed listed.classes history)
 points_count listed history legal =
     length-filter_map answer_point (standing history) (each_point (standing history)) ∙ sym (answers_count listed history (sound_history listed history legal))
 
 -- where a Commit may follow, there are fewer than classes
 pub points_room : (listed : Listed) (history : List Event) (event : Event) → IsListed listed → IsLegal listed (history ++ event ∷ [])
-    → is_commit event ≡ true → length (points_in history) < length listed.classes
+    → is_commit event ≡ true → length (standing_points history) < length listed.classes
 points_room listed history event model legal commits =
     omega (
       arith,
-      one_more (points_in history) event commits,
+      one_more (standing_points history) event commits,
       ap (λ (l : List AnswerPoint). length l) (points_next history event),
       points_count listed (history ++ event ∷ []) legal,
       few_committed listed (history ++ event ∷ []) model legal,
@@ -76,7 +68,7 @@ points_room listed history event model legal commits =
 
 -- ---- what is read of them
 module _ {X : Type 0} (f : AnswerPoint → X) where
-  item_mapped : (points : List AnswerPoint) (n : ℕ) → item_at (map f points) n ≡ option_map f (item_at points n)
+  pub item_mapped : (points : List AnswerPoint) (n : ℕ) → item_at (map f points) n ≡ option_map f (item_at points n)
   item_mapped points zero = refl
   item_mapped points (suc k) = slice_get-map f points k
 
@@ -84,7 +76,7 @@ module _ {X : Type 0} (f : AnswerPoint → X) where
   fold_mapped first [] = refl
   fold_mapped first (point ∷ points) = fold_mapped (f point) points
 
-  mapped : (g : Event → Option X) → ((event : Event) → option_map f (answer_point event) ≡ g event) → (events : List Event)
+  pub mapped : (g : Event → Option X) → ((event : Event) → option_map f (answer_point event) ≡ g event) → (events : List Event)
       → map f (filter_map answer_point events) ≡ filter_map g events
   mapped g same [] = refl
   mapped g same (event ∷ later) =
@@ -102,49 +94,9 @@ point_same (Commit desk question side plus minus point) = refl
 point_same (Close desk question) = refl
 point_same (Withdraw desk answer) = refl
 
-question_same : (event : Event) → option_map (λ last. last.question) (answer_point event) ≡ answered_question event
-question_same (Eliminate worker place verdict combination) = refl
-question_same (Issue desk place plus minus) = refl
-question_same (Commit desk question side plus minus point) = refl
-question_same (Close desk question) = refl
-question_same (Withdraw desk answer) = refl
-
 pub latest_is : (levels : List ℕ) (history : List Event)
-    → fold (λ earlier last. last.point) (replicate (increments levels) (pos 1)) (points_in history) ≡ last_point levels history
+    → fold (λ earlier last. last.point) (replicate (increments levels) (pos 1)) (standing_points history) ≡ last_point levels history
 latest_is levels history =
     let ones : List ℤ = replicate (increments levels) (pos 1) in
-    fold_mapped (λ last. last.point) ones (points_in history)
+    fold_mapped (λ last. last.point) ones (standing_points history)
     ∙ ap (λ points. fold (λ earlier point. point) ones points) (mapped (λ last. last.point) point_of point_same (standing history))
-
-pub last_question_is : (history : List Event)
-    → option_map (λ last. last.question) (item_at (points_in history) (length (points_in history))) ≡ item_at (answered history) (length (answered history))
-last_question_is history =
-    let points : List AnswerPoint = points_in history in
-    let same : map (λ last. last.question) points ≡ answered history = mapped (λ last. last.question) answered_question question_same (standing history) in
-    sym (item_mapped (λ last. last.question) points (length points))
-    ∙ ap (λ n. item_at (map (λ last. last.question) points) n) (sym (length-map points (λ last. last.question)))
-    ∙ ap (λ (l : List ℕ). item_at l (length l)) same
-
--- ---- how many they are
-pub answered_count : (listed : Listed) (history : List Event) → IsLegal listed history → length (answered history) ≡ length (committed listed.classes history)
-answered_count listed history legal =
-    let points : List AnswerPoint = points_in history in
-    ap (λ (l : List ℕ). length l) (sym (mapped (λ last. last.question) answered_question question_same (standing history)))
-    ∙ length-map points (λ last. last.question) ∙ points_count listed history legal
-
-pub none_answered : (listed : Listed) (history : List Event) → IsLegal listed history → item_at (answered history) (length (answered history)) ≡ None
-    → committed listed.classes history ≡ []
-none_answered listed history legal none = go (committed listed.classes history) refl
-  where
-    go : (answers : List Answer) → answers ≡ committed listed.classes history → committed listed.classes history ≡ []
-    go [] is = sym is
-    go (answer ∷ answers) is =
-        let some : 1 ≤ length (answered history) = omega (arith, answered_count listed history legal, ap (λ (l : List Answer). length l) is) in
-        let last : (question : ℕ) × (item_at (answered history) (length (answered history)) ≡ Some question) =
-        item_inside (answered history) (length (answered history)) some (omega arith) in
-        absurd (none-some last.0 (sym none ∙ last.1))
-
-pub some_answered : (listed : Listed) (history : List Event) (question : ℕ) → IsLegal listed history
-    → item_at (answered history) (length (answered history)) ≡ Some question → 1 ≤ length (committed listed.classes history)
-some_answered listed history question legal some =
-    omega (arith, answered_count listed history legal, item_positive (answered history) (length (answered history)) question some)
