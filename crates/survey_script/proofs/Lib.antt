@@ -1,0 +1,4 @@
+pub mod TextLemmas
+pub mod HelloLemmas
+pub mod StepLemmas
+pub mod WithinLemmas

@@ -1,1 +1,4 @@
 pub mod ScriptViews
+pub mod Hellos
+pub mod Scripts
+pub mod Steps
