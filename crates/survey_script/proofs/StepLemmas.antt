@@ -1,11 +1,12 @@
 -- A line, and what a script is by it and by the lines after it.
-use Rattle.std.proofs.Common.{◌≡◌, ◌≢◌, ℕ, ◌+◌, ◌≤◌, ◌<◌, true, false, Bool, List, [], ◌∷◌, length, refl, sym, ap, subst, ◌∙◌, arith, if◌then◌else◌}
+use Rattle.std.proofs.Common.{◌≡◌, ◌≢◌, ◌⊎◌, inl, inr, ℕ, ◌+◌, ◌≤◌, ◌<◌, true, false, Bool, List, [], ◌∷◌, length, refl, sym, ap, subst, ◌∙◌, arith, if◌then◌else◌}
 use Rattle.std.proofs.lemmas.Bool.Decides.{nat_tests}
-use Rattle.std.specs.Prelude.{nat_lt, Option, Some, None, IfSome, IfOk, IfErr, MatchResult, Result, Ok, Err}
+use Rattle.std.specs.Prelude.{nat_lt, Option, Some, None, IfSome, IfOk, IfErr, IsOk, MatchResult, Result, Ok, Err}
 use Rattle.json_forms.specs.declared.definition_faults.DefinitionFault.TheVariants as fault
 use Rattle.json_forms.specs.declared.definition_faults.TheConstants.{MAX_DEFINITION}
 use Rattle.json_forms.specs.DefinitionViews.{DefinitionView}
 use Rattle.json_forms.specs.Definitions.{definition_of}
+use Rattle.edges.specs.Faults.{CountsFaults, HasRisen}
 use Rattle.edges.specs.Told.{IsAtEnd}
 use Rattle.result_file.specs.declared.limits.TheConstants.{MAX_LINE}
 use Rattle.survey_script.specs.declared.stops.ScriptPart.{ScriptPart}
@@ -13,7 +14,7 @@ use Rattle.survey_script.specs.declared.stops.ScriptPart.TheVariants.{Long, Bye}
 use Rattle.survey_script.specs.declared.stops.ScriptStop.{ScriptStop}
 use Rattle.survey_script.specs.declared.stops.ScriptStop.TheVariants.{Definition, Script, ReadFault, NoMemory}
 use Rattle.survey_script.specs.ScriptViews.{ScriptSessionView, ScriptView, script_view}
-use Rattle.survey_script.specs.Scripts.{IsStopOf, SessionsView, after_line, defined, ended_at, first_definition, go_on, lines_in, no_sessions, script_by, script_in, script_of, script_with, sessions_after}
+use Rattle.survey_script.specs.Scripts.{IsScript, IsStopOf, SessionsView, after_line, defined, ended_at, first_definition, go_on, lines_in, no_sessions, script_by, script_in, script_of, script_with, sessions_after}
 use Rattle.survey_script.specs.Steps.{EndsWith, GoesOnBy, GoesTo, IsStopAt, LeavesRest}
 use Rattle.survey_script.proofs.TextLemmas.{IsFirstLong}
 
@@ -30,7 +31,7 @@ pub goes_on_by : (definition : DefinitionView) (number : ℕ) (old new : Session
 goes_on_by definition number old new line None now given is = tt
 goes_on_by definition number old new line (Some text) now given is =
     let step : go_on number (after_line definition number old line) (λ next. sessions_after definition (number + 1) next (lines_in given.0))
-        ≡ sessions_after definition (number + 1) new (lines_in given.0) =
+    ≡ sessions_after definition (number + 1) new (lines_in given.0) =
     ap (λ (r : Result SessionsView ScriptPart). go_on number r (λ next. sessions_after definition (number + 1) next (lines_in given.0))) is in
     (given.0, given.1, ap (sessions_after definition number old) given.2 ∙ step)
 
@@ -257,3 +258,18 @@ outcome_by definition result told before now same begins read =
 pub stopped_by : (stop : ScriptStop) (told before : Option (List ℕ)) → before ≡ told → IfSome before (λ text. IsStopOf (script_of text) stop)
     → IfSome told (λ text. IsStopOf (script_of text) stop)
 stopped_by stop told before same stops = subst (λ (o : Option (List ℕ)). IfSome o (λ text. IsStopOf (script_of text) stop)) same stops
+
+done_by : (text : List ℕ) (script : ScriptView) (result : Result ScriptView ScriptStop) → script_of text ≡ Ok script → IsOutcome (script_of text) result
+    → result ≢ Err ReadFault → IsOk result ⊎ (result ≡ Err NoMemory)
+done_by text script (Ok other) is outcome quiet = inl refl
+done_by text script (Err (Definition fault)) is outcome quiet = cc
+done_by text script (Err (Script line part)) is outcome quiet = cc
+done_by text script (Err ReadFault) is outcome quiet = absurd (quiet refl)
+done_by text script (Err NoMemory) is outcome quiet = inr refl
+
+-- a script is read where no fault came
+pub done_where_script : (told : Option (List ℕ)) (result : Result ScriptView ScriptStop) (before now : ℕ) → IfSome told (λ text. IsOutcome (script_of text) result)
+    → CountsFaults (result ≡ Err ReadFault) before now → IsScript told → (¬ HasRisen before now) → IsOk result ⊎ (result ≡ Err NoMemory)
+done_where_script told result before now outcome faults is quiet =
+    let known : IsOutcome (script_of is.0) result = subst (λ (o : Option (List ℕ)). IfSome o (λ text. IsOutcome (script_of text) result)) is.2 outcome in
+    done_by is.0 is.1 result is.3 known (λ failed. quiet (faults.rises failed))

@@ -129,6 +129,10 @@ script_in (line ∷ lines) = script_by (first_definition line) lines
 abbrev pub script_of : List ℕ → Result ScriptView ScriptStop
 script_of text = script_in (lines_in text)
 
+-- the text is known, and is a script
+abbrev pub IsScript : Option (List ℕ) → Type 0
+IsScript told = (text : List ℕ) × (script : ScriptView) × (told ≡ Some text) × (script_of text ≡ Ok script)
+
 -- the stop is the one of the text; a fault of the source and want of memory say nothing of it
 abbrev pub IsStopOf : {X : Type 0} → Result X ScriptStop → ScriptStop → Type 0
 IsStopOf outcome (Definition fault) = outcome ≡ Err (Definition fault)

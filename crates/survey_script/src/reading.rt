@@ -1,10 +1,10 @@
 //! Reads scripts.
-ghost use Rattle.std.specs.Prelude.{◌≡◌, ◌≢◌, ◌+◌, ◌≤◌, length, IfOk, IfErr, IfSome, IsFalse, IsTrue, OnOk, MatchResult};
-ghost use Rattle.edges.specs.Faults.{CountsFaults};
+ghost use Rattle.std.specs.Prelude.{◌≡◌, ◌≢◌, ◌⊎◌, ◌+◌, ◌≤◌, length, IfOk, IfErr, IfSome, IsFalse, IsOk, IsTrue, OnOk, MatchResult};
+ghost use Rattle.edges.specs.Faults.{CountsFaults, HasRisen};
 ghost use Rattle.edges.specs.Lines.{ahead};
 ghost use Rattle.edges.specs.Told.{IsAtEnd};
 ghost use Rattle.survey_script.specs.ScriptViews.{IsWholeScript, script_view};
-ghost use Rattle.survey_script.specs.Scripts.{IsStopOf, first_definition, lines_in, no_sessions, script_by, script_of, sessions_after};
+ghost use Rattle.survey_script.specs.Scripts.{IsScript, IsStopOf, first_definition, lines_in, no_sessions, script_by, script_of, sessions_after};
 ghost use Rattle.survey_script.specs.Steps.{AreWithin, EndsWith, GoesOnBy, LeavesRest};
 
 use crate::limits::MAX_SCRIPT_LINES;
@@ -12,9 +12,7 @@ use crate::scripts::{Script, ScriptSession};
 use crate::sessions_so_far::SessionsSoFar;
 use crate::stops::{ScriptPart, ScriptStop};
 use edges::{LineGot, Lines, Source};
-use json_forms::{
-    Definition, DefinitionFault, DefinitionStop, MAX_DEFINITION, read_definition,
-};
+use json_forms::{Definition, DefinitionFault, DefinitionStop, MAX_DEFINITION, read_definition};
 use result_file::MAX_LINE;
 use std::alloc::Global;
 
@@ -29,12 +27,33 @@ pub fn read_script<S: Source>(alloc: Global, source: &mut S) -> Result<Script, S
     ensures whole { IfOk result IsWholeScript }
     ensures ended { OnOk result (IsAtEnd (S.left source.new)) }
     ensures faults { CountsFaults (result ≡ Err ScriptStop.ReadFault) (S.faults source.old) (S.faults source.new) }
+
+    // A script is read where no fault came, or there was no memory.
+    ensures done { IsScript (S.left source.old) → (¬ HasRisen (S.faults source.old) (S.faults source.new))
+        → IsOk result ⊎ (result ≡ Err ScriptStop.NoMemory) }
 {
     let mut lines = Lines::reserve(alloc, MAX_DEFINITION)?;
-    match read_first(alloc, &mut lines, source) {
+    read_lines(alloc, &mut lines, source)
+}
+
+/// Reads the script that lies ahead.
+fn read_lines<S: Source>(
+    alloc: Global,
+    lines: &mut Lines,
+    source: &mut S,
+) -> Result<Script, ScriptStop>
+    requires longest { lines.old.longest ≡ MAX_DEFINITION }
+    requires reserved { MAX_LINE ≤ lines.old.reserved }
+    ensures read { IfSome (ahead lines.old (S.left source.old)) (λ text.
+        MatchResult result (λ script. script_of text ≡ Ok script) (IsStopOf (script_of text))) }
+    ensures whole { IfOk result IsWholeScript }
+    ensures ended { OnOk result (IsAtEnd (S.left source.new)) }
+    ensures faults { CountsFaults (result ≡ Err ScriptStop.ReadFault) (S.faults source.old) (S.faults source.new) }
+{
+    match read_first(alloc, lines, source) {
         Ok(definition) => {
             lines.limit(MAX_LINE);
-            read_under(alloc, definition, &mut lines, source)
+            read_under(alloc, definition, lines, source)
         }
         Err(stop) => Err(stop),
     }
@@ -172,3 +191,6 @@ fn read_sessions<S: Source>(
         number += 1;
     }
 }
+
+#[cfg(test)]
+mod tests;
