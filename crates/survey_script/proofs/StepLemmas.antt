@@ -74,34 +74,6 @@ stops_long definition number old longest (Some text) is long =
 abbrev pub IsNone : Option (List ℕ) → Option (List ℕ) → Type 0
 IsNone before now = LeavesRest before now (λ text rest. (text ≡ []) × (rest ≡ []))
 
-pub ends_here : (definition : DefinitionView) (number : ℕ) (old : SessionsView) (before now : Option (List ℕ)) → IsNone before now
-    → old.running ≡ None → EndsWith definition number old old before
-ends_here definition number old None now none is = tt
-ends_here definition number old (Some text) now none is =
-    ap (λ (xs : List ℕ). sessions_after definition number old (lines_in xs)) none.2.0 ∙ ap (ended_at number old.ended) is
-
-pub stops_here : (definition : DefinitionView) (number : ℕ) (old : SessionsView) (before now : Option (List ℕ)) (stop : ScriptStop) → IsNone before now
-    → ended_at number old.ended old.running ≡ Err stop → stop ≡ Script number Bye → IfSome before (λ text. IsStopOf (sessions_after definition number old (lines_in text)) stop)
-stops_here definition number old None now stop none is part = tt
-stops_here definition number old (Some text) now stop none is part =
-    let outcome : sessions_after definition number old (lines_in text) ≡ Err stop =
-    ap (λ (xs : List ℕ). sessions_after definition number old (lines_in xs)) none.2.0 ∙ is in
-    rw part (outcome ∙ ap (λ (s : ScriptStop). Err s) part)
-
--- the text ends after a line
-pub ends_after : (definition : DefinitionView) (number : ℕ) (old new : SessionsView) (line : List ℕ) → after_line definition number old line ≡ Ok new
-    → new.running ≡ None → sessions_after definition number old (line ∷ []) ≡ Ok new.ended
-ends_after definition number old new line is none =
-    ap (λ (r : Result SessionsView ScriptPart). go_on number r (λ next. sessions_after definition (number + 1) next [])) is
-    ∙ ap (ended_at (number + 1) new.ended) none
-
-pub stops_after : (definition : DefinitionView) (number : ℕ) (old new : SessionsView) (line : List ℕ) (stop : ScriptStop) → after_line definition number old line ≡ Ok new
-    → ended_at (number + 1) new.ended new.running ≡ Err stop → stop ≡ Script (number + 1) Bye → IsStopOf (sessions_after definition number old (line ∷ [])) stop
-stops_after definition number old new line stop is ended part =
-    let outcome : sessions_after definition number old (line ∷ []) ≡ Err stop =
-    ap (λ (r : Result SessionsView ScriptPart). go_on number r (λ next. sessions_after definition (number + 1) next [])) is ∙ ended in
-    rw part (outcome ∙ ap (λ (s : ScriptStop). Err s) part)
-
 pub stops_at : (definition : DefinitionView) (number : ℕ) (old : SessionsView) (line : List ℕ) (stop : ScriptStop) → IsStopAt number (after_line definition number old line) stop
     → IsStopOf (sessions_after definition number old (line ∷ [])) stop
 stops_at definition number old line stop is =
@@ -124,41 +96,6 @@ module _ (definition : DefinitionView) (number : ℕ) (old : SessionsView) (line
       stop_along (sessions_after definition number old (lines_in text)) _ stop (ap (sessions_after definition number old) (given.2 ∙ ap (λ (xs : List ℕ). line ∷ lines_in xs) none)) is
 
 -- ---- from line to line
-
-pub goes_nowhere : (definition : DefinitionView) (number : ℕ) (old : SessionsView) (before : Option (List ℕ)) → GoesTo definition number old number old before before
-goes_nowhere definition number old None = tt
-goes_nowhere definition number old (Some text) = (text, refl, refl)
-
-module _ (definition : DefinitionView) (number later : ℕ) (old mid new : SessionsView) (before now : Option (List ℕ)) (goes : GoesTo definition number old later mid before now) where
-  -- one more line
-  pub goes_further : (after : Option (List ℕ)) → GoesOnBy definition later mid new now after → GoesTo definition number old (later + 1) new before after
-  goes_further after next = further_by before now after goes next where
-    further_by : (before now after : Option (List ℕ)) → GoesTo definition number old later mid before now → GoesOnBy definition later mid new now after
-        → GoesTo definition number old (later + 1) new before after
-    further_by None now after goes next = tt
-    further_by (Some text) now after goes next =
-        let known : GoesOnBy definition later mid new (Some goes.0) after = subst (λ (o : Option (List ℕ)). GoesOnBy definition later mid new o after) goes.1 next in
-        (known.0, known.1, goes.2 ∙ known.2)
-
-  -- the end
-  pub ends_then : EndsWith definition later mid new now → EndsWith definition number old new before
-  ends_then ends = ends_by before now goes ends where
-    ends_by : (before now : Option (List ℕ)) → GoesTo definition number old later mid before now → EndsWith definition later mid new now
-        → EndsWith definition number old new before
-    ends_by None now goes ends = tt
-    ends_by (Some text) now goes ends = goes.2 ∙ subst (λ (o : Option (List ℕ)). EndsWith definition later mid new o) goes.1 ends
-
-  -- a stop
-  pub stops_then : (stop : ScriptStop) → IfSome now (λ text. IsStopOf (sessions_after definition later mid (lines_in text)) stop)
-      → IfSome before (λ text. IsStopOf (sessions_after definition number old (lines_in text)) stop)
-  stops_then stop stops = stops_in before now goes stops where
-    stops_in : (before now : Option (List ℕ)) → GoesTo definition number old later mid before now
-        → IfSome now (λ text. IsStopOf (sessions_after definition later mid (lines_in text)) stop)
-        → IfSome before (λ text. IsStopOf (sessions_after definition number old (lines_in text)) stop)
-    stops_in None now goes stops = tt
-    stops_in (Some text) now goes stops =
-        stop_along (sessions_after definition number old (lines_in text)) _ stop goes.2
-        (subst (λ (o : Option (List ℕ)). IfSome o (λ rest. IsStopOf (sessions_after definition later mid (lines_in rest)) stop)) goes.1 stops)
 
 -- ---- the definition line
 
@@ -209,10 +146,6 @@ pub refused_long : (longest : ℕ) (before : Option (List ℕ)) → longest ≡ 
 refused_long longest None is long = tt
 refused_long longest (Some text) is long = ap script_in long.3 ∙ long_definition long.0 long.1 (omega (arith, long.2))
 
--- a line that isn't too long is what `read_definition` says
-pub defined_by : (line : List ℕ) → length line ≤ MAX_DEFINITION → first_definition line ≡ defined (definition_of line)
-defined_by line short = let test : nat_lt MAX_DEFINITION (length line) ≡ false = grind (arith, nat_tests, short) in rw test refl
-
 -- ---- whole scripts
 
 stop_of_sessions : (definition : DefinitionView) (read : Result (List ScriptSessionView) ScriptStop) (stop : ScriptStop) → IsStopOf read stop → IsStopOf (script_with definition read) stop
@@ -237,39 +170,3 @@ pub script_stopped : (definition : DefinitionView) (stop : ScriptStop) (now : Op
     → IfSome now (λ text. IsStopOf (script_by (Ok definition) (lines_in text)) stop)
 script_stopped definition stop None stops = tt
 script_stopped definition stop (Some text) stops = stop_of_sessions definition (sessions_after definition 2 no_sessions (lines_in text)) stop stops
-
-outcome_along : {X : Type 0} (one other : Result X ScriptStop) (result : Result X ScriptStop) → one ≡ other → IsOutcome other result → IsOutcome one result
-outcome_along {X} one other result same is = subst (λ (r : Result X ScriptStop). IsOutcome r result) (sym same) is
-
-by_lines : (definition : DefinitionView) (result : Result ScriptView ScriptStop) (before now : Option (List ℕ))
-    → LeavesRest before now (λ text rest. script_of text ≡ script_by (Ok definition) (lines_in rest))
-    → IfSome now (λ text. IsOutcome (script_by (Ok definition) (lines_in text)) result) → IfSome before (λ text. IsOutcome (script_of text) result)
-by_lines definition result None now begins read = tt
-by_lines definition result (Some text) now begins read =
-    outcome_along (script_of text) _ result begins.2 (subst (λ (o : Option (List ℕ)). IfSome o (λ rest. IsOutcome (script_by (Ok definition) (lines_in rest)) result)) begins.1 read)
-
--- the outcome of the lines after the definition is that of the whole text
-pub outcome_by : (definition : DefinitionView) (result : Result ScriptView ScriptStop) (told before now : Option (List ℕ)) → before ≡ told
-    → LeavesRest before now (λ text rest. script_of text ≡ script_by (Ok definition) (lines_in rest))
-    → IfSome now (λ text. IsOutcome (script_by (Ok definition) (lines_in text)) result) → IfSome told (λ text. IsOutcome (script_of text) result)
-outcome_by definition result told before now same begins read =
-    subst (λ (o : Option (List ℕ)). IfSome o (λ text. IsOutcome (script_of text) result)) same (by_lines definition result before now begins read)
-
-pub stopped_by : (stop : ScriptStop) (told before : Option (List ℕ)) → before ≡ told → IfSome before (λ text. IsStopOf (script_of text) stop)
-    → IfSome told (λ text. IsStopOf (script_of text) stop)
-stopped_by stop told before same stops = subst (λ (o : Option (List ℕ)). IfSome o (λ text. IsStopOf (script_of text) stop)) same stops
-
-done_by : (text : List ℕ) (script : ScriptView) (result : Result ScriptView ScriptStop) → script_of text ≡ Ok script → IsOutcome (script_of text) result
-    → result ≢ Err ReadFault → IsOk result ⊎ (result ≡ Err NoMemory)
-done_by text script (Ok other) is outcome quiet = inl refl
-done_by text script (Err (Definition fault)) is outcome quiet = cc
-done_by text script (Err (Script line part)) is outcome quiet = cc
-done_by text script (Err ReadFault) is outcome quiet = absurd (quiet refl)
-done_by text script (Err NoMemory) is outcome quiet = inr refl
-
--- a script is read where no fault came
-pub done_where_script : (told : Option (List ℕ)) (result : Result ScriptView ScriptStop) (before now : ℕ) → IfSome told (λ text. IsOutcome (script_of text) result)
-    → CountsFaults (result ≡ Err ReadFault) before now → IsScript told → (¬ HasRisen before now) → IsOk result ⊎ (result ≡ Err NoMemory)
-done_where_script told result before now outcome faults is quiet =
-    let known : IsOutcome (script_of is.0) result = subst (λ (o : Option (List ℕ)). IfSome o (λ text. IsOutcome (script_of text) result)) is.2 outcome in
-    done_by is.0 is.1 result is.3 known (λ failed. quiet (faults.rises failed))

@@ -91,8 +91,3 @@ too_long_given new (Some text) (Some rest) gives =
     let same : Some (new.kept ++ rest) ≡ Some text = gives.same in
     let whole : new.kept ++ rest ≡ text = cc in
     long_by text new.longest (subst (λ (xs : List ℕ). new.longest < length (first_line xs)) whole (first_line-long new.kept rest new.longest gives.too_many gives.unbroken))
-
--- nothing is left in the source where nothing lies ahead and nothing is kept
-pub none_left : (new : LinesView) (left : Option (List ℕ)) → new.kept ≡ [] → IsAtEnd (ahead new left) → IsAtEnd left
-none_left new None none ended = tt
-none_left new (Some rest) none ended = let e : new.kept ++ rest ≡ [] = ended in let f : rest ≡ [] ++ rest = refl in f ∙ ap (λ (xs : List ℕ). xs ++ rest) (sym none) ∙ e

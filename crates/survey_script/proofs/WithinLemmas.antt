@@ -30,16 +30,6 @@ other_way : {X : Type 0} (b : Bool) (part : ScriptPart) (rest : Result X ScriptP
 other_way true part rest x is = cc
 other_way false part rest x is = (refl, is)
 
--- no line has come
-pub none_within : (respondents : ℕ) → AreWithin respondents 2 no_sessions
-none_within respondents = record {
-  ended = All-nil (IsWholeSession respondents);
-  running = All-nil (IsBegunSession respondents);
-  few = omega arith;
-  lines = refl;
-  short = omega arith;
-}
-
 module _ (definition : DefinitionView) (number : ℕ) (ended : List ScriptSessionView) (short : number ≤ MAX_SCRIPT_LINES + 1) where
   abbrev respondents : ℕ
   respondents = length definition.respondents

@@ -175,32 +175,34 @@ fn limits(rt: HostRuntime) -> Result<(), Fail> {
     let blanks = 4_096 + 1 - NEXT.len() as u32;
     let session: &[u8] =
         b"{\"hello\":{\"code\":\"k1\",\"desk\":1,\"name\":\"ana\"}}\n{\"ask\":\"bye\"}\n";
-    let table: [(&[(&[u8], u32)], Option<ScriptStop>); 8] = [
-        (&[(HELLO, 1), (b" ", blanks), (NEXT, 1), (BYE, 1)], None),
+    let table: [([(&[u8], u32); 4], Option<ScriptStop>); 8] = [
+        ([(HELLO, 1), (b" ", blanks), (NEXT, 1), (BYE, 1)], None),
         (
-            &[(HELLO, 1), (b" ", blanks + 1), (NEXT, 1), (BYE, 1)],
+            [(HELLO, 1), (b" ", blanks + 1), (NEXT, 1), (BYE, 1)],
             at(3, ScriptPart::Long),
         ),
-        (&[(b" ", 4_097)], at(2, ScriptPart::Long)),
-        (&[(session, 64)], None),
-        (&[(session, 65)], at(130, ScriptPart::Sessions)),
-        (&[(HELLO, 1), (NEXT, 65_534), (BYE, 1)], None),
         (
-            &[(HELLO, 1), (NEXT, 65_535), (BYE, 1)],
+            [(b" ", 4_097), (b"", 0), (b"", 0), (b"", 0)],
+            at(2, ScriptPart::Long),
+        ),
+        ([(session, 64), (b"", 0), (b"", 0), (b"", 0)], None),
+        (
+            [(session, 65), (b"", 0), (b"", 0), (b"", 0)],
+            at(130, ScriptPart::Sessions),
+        ),
+        ([(HELLO, 1), (b"\n", 65_534), (BYE, 1), (b"", 0)], None),
+        (
+            [(HELLO, 1), (b"\n", 65_535), (BYE, 1), (b"", 0)],
             at(65_538, ScriptPart::Lines),
         ),
         (
-            &[(HELLO, 1), (NEXT, 65_535), (b" ", 4_097)],
+            [(HELLO, 1), (b"\n", 65_535), (b" ", 4_097), (b"", 0)],
             at(65_538, ScriptPart::Long),
         ),
     ];
-    for (lines, stop) in table {
-        let mut parts = Vec::new(rt.alloc());
-        parts.push((DEFINITION, 1))?;
-        for part in lines {
-            parts.push(*part)?;
-        }
-        let found = stop_of(rt.alloc(), parts.as_slice(), 100_000, &[])?;
+    for ([first, second, third, last], stop) in table {
+        let parts = [(DEFINITION, 1), first, second, third, last];
+        let found = stop_of(rt.alloc(), &parts, 100_000, &[])?;
         assert!(rt; found == stop, "{stop:?}");
     }
     Ok(())
