@@ -30,7 +30,7 @@ pub enum GatePoint {
     },
 }
 
-/// What is told of each point that somebody comes to. It promises nothing.
+/// Is called at each point that somebody comes to. It promises nothing.
 pub trait Gate {
     /// Somebody comes to the point, and goes on when the call returns.
     fn pass(&self, point: GatePoint);

@@ -7,9 +7,11 @@
 //!
 //! `MemSource` and `MemSink` are over memory and fail at the calls that a test names; `QuietSource`
 //! and `QuietSink` can't fail; `StdSource` and `StdSink` are the standard ends, and a `TcpDoor` gives the
-//! `TcpEnd`s of connections: these show nothing and are trusted. `Lines` has one buffer, taken by `reserve`: the longest line, its line end and
-//! 64 KiB of read-ahead; a line is a slice of it. `Rest` is what such a reader kept and then its source, as one source. A `Gate` is told of points in the work, at which a `ScriptGate` may hold a test. `Text` has a fixed room. `laws` says that a text
-//! splits into lines in one way.
+//! `TcpEnd`s of connections: these show nothing and are trusted. `Lines` has one buffer, taken by
+//! `reserve`: the longest line, its line end and 64 KiB of read-ahead; a line is a slice of it. `Rest` is
+//! what such a reader kept and then its source, as one source. A `Gate` is called at points in the work,
+//! at which a `ScriptGate` may hold a test. `Text` has a fixed room. `laws` says that a text splits into
+//! lines in one way.
 #![tactic(auto)]
 
 mod doors;

@@ -10,7 +10,7 @@ use crate::NoMemory;
 use csv::{ByteRecord, Reader, ReaderBuilder};
 use std::alloc::Global;
 
-/// All records of the table. Records may differ in length, so a reader over memory fails only for want of memory.
+/// All records of the table. Records may differ in length, so a reader over memory fails only when out of memory.
 pub(crate) fn records_of(alloc: Global, table: &[u8]) -> Result<Vec<ByteRecord>, NoMemory>
     ensures exact { IfOk result (λ rows. map fields_of rows.items ≡ table_records table.now) }
     ensures few { IfOk result (λ rows. length rows.items ≤ length table.now + 1) }

@@ -24,7 +24,7 @@ impl std::marker::Model for ResultFile {
 }
 
 impl ResultFile {
-    /// The result of this survey, after so many lines.
+    /// The result of this survey, after this number of lines.
     pub(crate) fn of(survey: Survey, lines: u32) -> ResultFile
         ensures survey { result.survey ≡ survey.survey }
         ensures lines { result.lines ≡ lines }
