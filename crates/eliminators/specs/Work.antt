@@ -70,14 +70,14 @@ pub record WorksUntilIdle (listed : Listed) (worker : ℕ) (before after : Seen)
   pub tallied : IsTallyOf answers tally
 
 -- all answers of a tally
-abbrev pub total : Tally → ℕ
-total tally = tally.recorded + tally.kept + tally.stale
+abbrev pub tally_total : Tally → ℕ
+tally_total tally = tally.recorded + tally.kept + tally.stale
 
 -- jobs taken and jobs handed in rose by the total of the tally, while neither number stands at its last value
 abbrev pub AddsUp : JobCounts → JobCounts → Tally → Type 0
 AddsUp was now tally =
     now.taken < 2 ^ 32 - 1 → now.handed_in < 2 ^ 32 - 1
-    → (now.taken ≡ was.taken + total tally) × (now.handed_in ≡ was.handed_in + total tally)
+    → (now.taken ≡ was.taken + tally_total tally) × (now.handed_in ≡ was.handed_in + tally_total tally)
 
 -- what a run of work leaves of a bench, by the members of its type: it stands for the same, and each job was handed in
 abbrev pub Stays : {B A : Type 0} → (B → A) → (A → Listed) → (A → ℕ) → (B → Seen) → B → B → Type 0

@@ -24,7 +24,7 @@ IsNotAccepted (gist.accepted number) = ⊥
 IsNotAccepted _ = Unit {0}
 
 -- a question came, and its answer by the values wasn't accepted
-pub record IsRefused (levels : List ℕ) (values : List ℤ) (asks answers : Exchange) : Type 0 where
+pub record IsNotTaken (levels : List ℕ) (values : List ℤ) (asks answers : Exchange) : Type 0 where
   pub one : AnsweredQuestion
   pub next : asks.request ≡ request.next
   pub question : gist_of asks.reply ≡ gist.asks one.number one.place one.pair
@@ -36,7 +36,7 @@ pub record IsRefused (levels : List ℕ) (values : List ℤ) (asks answers : Exc
 -- no question, or a question whose answer isn't accepted
 abbrev pub Stops : List ℕ → List ℤ → ℕ → List Exchange → Type 0
 Stops levels values asked (last ∷ []) = (asked ≡ 0) × (last.request ≡ request.next) × IsNoQuestion (gist_of last.reply)
-Stops levels values asked (asks ∷ answers ∷ []) = (asked ≡ 1) × IsRefused levels values asks answers
+Stops levels values asked (asks ∷ answers ∷ []) = (asked ≡ 1) × IsNotTaken levels values asks answers
 Stops levels values asked _ = ⊥
 
 -- a conversation in which each question is answered by the hidden values of the seed, up to the first reply that is neither a
@@ -61,10 +61,10 @@ pub record HasAnswered (listed : Listed) (desk : ℕ) (values : List ℤ) (befor
   pub issues : length (issued before.journal) + length questions ≤ length (issued after.journal)
 
 -- what comes of asking once: an answered question, or the stop
-abbrev pub IsStep : Listed → ℕ → List ℤ → Seen → Seen → Step → Type 0
-IsStep listed desk values before after (Answered place side) =
+abbrev pub IsSampleStep : Listed → ℕ → List ℤ → Seen → Seen → Step → Type 0
+IsSampleStep listed desk values before after (Answered place side) =
     (one : AnsweredQuestion) × (one.place ≡ place) × (one.side ≡ side) × HasAnswered listed desk values before after (one ∷ [])
-IsStep listed desk values before after NotAccepted =
+IsSampleStep listed desk values before after NotAccepted =
     (last : List Exchange) × Conversation listed desk before after last × Stops listed.criteria.levels values 1 last
-IsStep listed desk values before after NoQuestion =
+IsSampleStep listed desk values before after NoQuestion =
     (last : List Exchange) × Conversation listed desk before after last × Stops listed.criteria.levels values 0 last

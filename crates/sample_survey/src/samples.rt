@@ -6,7 +6,7 @@ ghost use Rattle.survey_core.specs.Legal.{IsLegal};
 ghost use Rattle.survey_replies.specs.Calls.{unseen};
 ghost use Rattle.survey_replies.specs.PlainLaws.{IsAlone};
 ghost use Rattle.sample_survey.specs.Samples.{IsSample, IsSampleOf};
-ghost use Rattle.sample_survey.specs.Sampling.{IsSampling, IsStep};
+ghost use Rattle.sample_survey.specs.Sampling.{IsSampling, IsSampleStep};
 
 use crate::NoMemory;
 use crate::summary::Summary;
@@ -73,7 +73,7 @@ fn answer_next<R: Respondent>(respondent: &mut R, model: &Model, values: &Vector
     requires model { model.now ≡ (R.listed (R.about respondent.old)).criteria }
     requires listed { IsListed (R.listed (R.about respondent.old)) }
     requires vector { IsValueVector model.now.levels values.now }
-    ensures step { IsStep (R.listed (R.about respondent.old)) (R.desk (R.about respondent.old)) values.now
+    ensures step { IsSampleStep (R.listed (R.about respondent.old)) (R.desk (R.about respondent.old)) values.now
         (R.seen respondent.old) (R.seen respondent.new) result }
     ensures same { R.about respondent.new ≡ R.about respondent.old }
 {

@@ -26,7 +26,7 @@ use Rattle.result_file.proofs.OutLemmas.{unlines-append}
 use Rattle.session_protocol.specs.declared.sessions.SessionEnd.{SessionEnd}
 use Rattle.session_protocol.specs.declared.sessions.SessionEnd.TheVariants.{Bye, EndOfInput, LineTooLong, Messages, ReadFault, WriteFault, NoMemory}
 use Rattle.session_protocol.specs.Exchanges.{IsAnswered, reply_by}
-use Rattle.session_protocol.specs.Sessions.{LineExchange, exchange_of, reply_of, text_of, AnswersLines, lines_of, texts_of, IsLine, IsOverlong, HasNoBye, EndsWithBye, EndsAfter, EndTakes, refusals, AppendsCut, IsWritten, IsSession, GoesOn, SessionView, session_view}
+use Rattle.session_protocol.specs.Sessions.{LineExchange, exchange_of, reply_of, text_of, AnswersLines, exchange_lines, texts_of, IsLine, IsOverlong, HasNoBye, EndsWithBye, EndsAfter, EndTakes, refusals, AppendsCut, IsWritten, IsSession, SessionGoesOn, SessionView, session_view}
 use Rattle.session_protocol.proofs.ReplyCases.{result_within, bye_said, bye_replied, bye_or_not}
 
 pub if_err : {A E : Type 0} (result : Result A E) (P Q : E → Type 0) → ((e : E) → P e → Q e) → IfErr result P → IfErr result Q
@@ -45,17 +45,17 @@ takes_none told = sym (prepend_known-nil told)
 pub takes_both : (before mid now : Option (List ℕ)) (xs ys : List ℕ) → Takes before mid xs → Takes mid now ys → Takes before now (xs ++ ys)
 takes_both before mid now xs ys one other = one ∙ ap (prepend_known xs) other ∙ sym (prepend_known-append xs ys now)
 
-lines_both : (xs ys : List LineExchange) → unlines (lines_of (xs ++ ys)) ≡ unlines (lines_of xs) ++ unlines (lines_of ys)
+lines_both : (xs ys : List LineExchange) → unlines (exchange_lines (xs ++ ys)) ≡ unlines (exchange_lines xs) ++ unlines (exchange_lines ys)
 lines_both xs ys =
-    ap unlines (map-append (λ (one : LineExchange). one.line) xs ys) ∙ unlines-append (lines_of xs) (lines_of ys)
+    ap unlines (map-append (λ (one : LineExchange). one.line) xs ys) ∙ unlines-append (exchange_lines xs) (exchange_lines ys)
 
 -- what holds of the lines of two parts, one after the other
-lines_append : (P : List (List ℕ) → Type 0) (xs ys : List LineExchange) → P (lines_of xs ++ lines_of ys) → P (lines_of (xs ++ ys))
+lines_append : (P : List (List ℕ) → Type 0) (xs ys : List LineExchange) → P (exchange_lines xs ++ exchange_lines ys) → P (exchange_lines (xs ++ ys))
 lines_append P xs ys h = subst P (sym (map-append (λ (one : LineExchange). one.line) xs ys)) h
 
-all_lines : (xs ys : List LineExchange) → All IsLine (lines_of xs) → All IsLine (lines_of ys) → All IsLine (lines_of (xs ++ ys))
+all_lines : (xs ys : List LineExchange) → All IsLine (exchange_lines xs) → All IsLine (exchange_lines ys) → All IsLine (exchange_lines (xs ++ ys))
 all_lines xs ys one other =
-    lines_append (All IsLine) xs ys (All-append IsLine (lines_of xs) (lines_of ys) one other)
+    lines_append (All IsLine) xs ys (All-append IsLine (exchange_lines xs) (exchange_lines ys) one other)
 
 -- ---- conversations
 answers_both : (listed : Listed) (desk : ℕ) (before middle after : Seen) (xs ys : List LineExchange)
@@ -171,7 +171,7 @@ ends_later NoMemory count most total xs ys none is few all (byeless, within) = (
 
 -- ---- sessions and their parts
 module _ (listed : Listed) (desk : ℕ) where
-  pub goes_nowhere : (seen : Seen) (ahead written : Option (List ℕ)) → GoesOn listed desk (session_view seen ahead written) (session_view seen ahead written) 0
+  pub goes_nowhere : (seen : Seen) (ahead written : Option (List ℕ)) → SessionGoesOn listed desk (session_view seen ahead written) (session_view seen ahead written) 0
   goes_nowhere seen ahead written = record {
     exchanges = [];
     answered = not_begun listed desk seen;
@@ -183,8 +183,8 @@ module _ (listed : Listed) (desk : ℕ) where
   }
 
   -- one part and then another
-  pub goes_further : (before middle after : SessionView) (count more : ℕ) → GoesOn listed desk before middle count → GoesOn listed desk middle after more
-      → GoesOn listed desk before after (count + more)
+  pub goes_further : (before middle after : SessionView) (count more : ℕ) → SessionGoesOn listed desk before middle count → SessionGoesOn listed desk middle after more
+      → SessionGoesOn listed desk before after (count + more)
   goes_further before middle after count more one other =
       let longer : IsPrefix middle.seen.journal after.seen.journal =
       conversation_longer listed desk middle.seen after.seen (map exchange_of other.exchanges) other.answered in
@@ -193,18 +193,18 @@ module _ (listed : Listed) (desk : ℕ) where
         answered = answers_both listed desk before.seen middle.seen after.seen one.exchanges other.exchanges one.answered other.answered;
         lines = all_lines one.exchanges other.exchanges one.lines other.lines;
         read = subst (λ (l : List ℕ). Takes before.ahead after.ahead l) (sym (lines_both one.exchanges other.exchanges))
-            (takes_both before.ahead middle.ahead after.ahead (unlines (lines_of one.exchanges)) (unlines (lines_of other.exchanges)) one.read other.read);
+            (takes_both before.ahead middle.ahead after.ahead (unlines (exchange_lines one.exchanges)) (unlines (exchange_lines other.exchanges)) one.read other.read);
         put = subst (λ (l : List (List ℕ)). Appends before.written after.written (concat l))
             (sym (texts_both listed desk before.seen middle.seen after.seen one.exchanges other.exchanges one.answered longer))
             (put_both before.written middle.written after.written (texts_of listed middle.seen.journal one.exchanges)
             (texts_of listed after.seen.journal other.exchanges) one.put other.put);
-        no_bye = lines_append HasNoBye one.exchanges other.exchanges (no_byes (lines_of one.exchanges) (lines_of other.exchanges) one.no_bye other.no_bye);
+        no_bye = lines_append HasNoBye one.exchanges other.exchanges (no_byes (exchange_lines one.exchanges) (exchange_lines other.exchanges) one.no_bye other.no_bye);
         counted = length-append one.exchanges other.exchanges ∙ ap (λ n. n + length other.exchanges) one.counted ∙ ap (λ n. count + n) other.counted;
       }
 
   -- a part and then the end
   pub ends_then : (before middle after : SessionView) (count most total : ℕ) (end : SessionEnd)
-      → GoesOn listed desk before middle count → IsSession listed desk middle after most end
+      → SessionGoesOn listed desk before middle count → IsSession listed desk middle after most end
       → count + most ≤ total → (end ≡ Messages → count + most ≡ total) → IsSession listed desk before after total end
   ends_then before middle after count most total end one other few all =
       let longer : IsPrefix middle.seen.journal after.seen.journal =
@@ -216,16 +216,16 @@ module _ (listed : Listed) (desk : ℕ) where
         taken = other.taken;
         takes = other.takes;
         read = subst (λ (l : List ℕ). Takes before.ahead after.ahead l)
-            (sym (append_assoc (unlines (lines_of one.exchanges)) (unlines (lines_of other.exchanges)) other.taken)
+            (sym (append_assoc (unlines (exchange_lines one.exchanges)) (unlines (exchange_lines other.exchanges)) other.taken)
             ∙ ap (λ (l : List ℕ). l ++ other.taken) (sym (lines_both one.exchanges other.exchanges)))
-            (takes_both before.ahead middle.ahead after.ahead (unlines (lines_of one.exchanges))
-            (unlines (lines_of other.exchanges) ++ other.taken) one.read other.read);
+            (takes_both before.ahead middle.ahead after.ahead (unlines (exchange_lines one.exchanges))
+            (unlines (exchange_lines other.exchanges) ++ other.taken) one.read other.read);
         put = subst (λ (l : List (List ℕ)). IsWritten end before.written after.written l)
             (sym (texts_both listed desk before.seen middle.seen after.seen one.exchanges other.exchanges one.answered longer))
             (written_later end before.written middle.written after.written (texts_of listed middle.seen.journal one.exchanges)
             (texts_of listed after.seen.journal other.exchanges) one.put other.put);
         ends = lines_append (EndsAfter total end) one.exchanges other.exchanges
-            (ends_later end count most total (lines_of one.exchanges) (lines_of other.exchanges) one.no_bye (length-map one.exchanges (λ (e : LineExchange). e.line) ∙ one.counted) few all other.ends);
+            (ends_later end count most total (exchange_lines one.exchanges) (exchange_lines other.exchanges) one.no_bye (length-map one.exchanges (λ (e : LineExchange). e.line) ∙ one.counted) few all other.ends);
       }
 
   -- ---- one line
@@ -259,7 +259,7 @@ module _ (listed : Listed) (desk : ℕ) where
   pub goes_by_line : (before middle after : Seen) (line : List ℕ) (answer : Reply) (written now : Option (List ℕ))
       → IsLine line → IsAnswered listed desk before middle (message_of line) answer → Watches middle after
       → Appends written now (text_of listed middle.journal answer) → answer ≢ reply.Bye
-      → (rest : Option (List ℕ)) → GoesOn listed desk (session_view before (prepend_known (line ++ line_end ∷ []) rest) written) (session_view after rest now) 1
+      → (rest : Option (List ℕ)) → SessionGoesOn listed desk (session_view before (prepend_known (line ++ line_end ∷ []) rest) written) (session_view after rest now) 1
   goes_by_line before middle after line answer written now is h watches put other rest = record {
     exchanges = record { line = line; came = h.came } ∷ [];
     answered = answered_line before middle after line answer h watches;

@@ -42,8 +42,8 @@ abbrev pub AnswersLines : Listed → ℕ → Seen → Seen → List LineExchange
 AnswersLines listed desk before after exchanges = Conversation listed desk before after (map exchange_of exchanges)
 
 -- the lines
-abbrev pub lines_of : List LineExchange → List (List ℕ)
-lines_of exchanges = map (λ one. one.line) exchanges
+abbrev pub exchange_lines : List LineExchange → List (List ℕ)
+exchange_lines exchanges = map (λ one. one.line) exchanges
 
 -- the texts of their replies, in a journal that begins with the one seen: the first events are the same, so is the text of a result
 abbrev pub texts_of : Listed → List Event → List LineExchange → List (List ℕ)
@@ -115,12 +115,12 @@ session_view seen ahead written = record { seen = seen; ahead = ahead; written =
 pub record IsSession (listed : Listed) (desk : ℕ) (before after : SessionView) (most : ℕ) (end : SessionEnd) : Type 0 where
   pub exchanges : List LineExchange
   pub answered : AnswersLines listed desk before.seen after.seen exchanges
-  pub lines : All IsLine (lines_of exchanges)
+  pub lines : All IsLine (exchange_lines exchanges)
   pub taken : List ℕ
   pub takes : EndTakes end taken
-  pub read : Takes before.ahead after.ahead (unlines (lines_of exchanges) ++ taken)
+  pub read : Takes before.ahead after.ahead (unlines (exchange_lines exchanges) ++ taken)
   pub put : IsWritten end before.written after.written (texts_of listed after.seen.journal exchanges)
-  pub ends : EndsAfter most end (lines_of exchanges)
+  pub ends : EndsAfter most end (exchange_lines exchanges)
 
 -- an end that a whole line can bring
 abbrev pub IsEndAtLine : SessionEnd → Type 0
@@ -130,11 +130,11 @@ IsEndAtLine NoMemory = Unit {0}
 IsEndAtLine _ = ⊥
 
 -- a session that goes on after some messages
-pub record GoesOn (listed : Listed) (desk : ℕ) (before after : SessionView) (count : ℕ) : Type 0 where
+pub record SessionGoesOn (listed : Listed) (desk : ℕ) (before after : SessionView) (count : ℕ) : Type 0 where
   pub exchanges : List LineExchange
   pub answered : AnswersLines listed desk before.seen after.seen exchanges
-  pub lines : All IsLine (lines_of exchanges)
-  pub read : Takes before.ahead after.ahead (unlines (lines_of exchanges))
+  pub lines : All IsLine (exchange_lines exchanges)
+  pub read : Takes before.ahead after.ahead (unlines (exchange_lines exchanges))
   pub put : Appends before.written after.written (concat (texts_of listed after.seen.journal exchanges))
-  pub no_bye : HasNoBye (lines_of exchanges)
+  pub no_bye : HasNoBye (exchange_lines exchanges)
   pub counted : length exchanges ≡ count

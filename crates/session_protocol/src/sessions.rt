@@ -8,7 +8,7 @@ ghost use Rattle.edges.specs.Told.{Appends, AppendsPrefix, IsAtEnd};
 ghost use Rattle.json_forms.specs.declared.replies.Reply.TheVariants.{Result as TheResult};
 ghost use Rattle.json_forms.specs.Replies.{IsWritable, json_line, refused_json};
 ghost use Rattle.survey_replies.specs.Calls.{Watches};
-ghost use Rattle.session_protocol.specs.Sessions.{EndsAfter, GoesOn, IsEndAtLine, IsLine, IsOverlong, IsSession, refusals, session_view, text_of};
+ghost use Rattle.session_protocol.specs.Sessions.{EndsAfter, SessionGoesOn, IsEndAtLine, IsLine, IsOverlong, IsSession, refusals, session_view, text_of};
 
 use crate::handling::handle;
 use criteria_model::Model;
@@ -102,7 +102,7 @@ fn answer_next<R: Respondent, S: Source, K: Sink>(
     requires longest { lines.old.longest ≡ MAX_LINE }
     requires empty { text.old.bytes ≡ [] }
     requires room { MAX_LINE ≤ text.old.room }
-    ensures goes { OnOk result (GoesOn (R.listed (R.about respondent.old)) (R.desk (R.about respondent.old))
+    ensures goes { OnOk result (SessionGoesOn (R.listed (R.about respondent.old)) (R.desk (R.about respondent.old))
         (session_view (R.seen respondent.old) (ahead lines.old (S.left source.old)) (K.written sink.old))
         (session_view (R.seen respondent.new) (ahead lines.new (S.left source.new)) (K.written sink.new)) 1) }
     ensures ends { IfErr result (IsSession (R.listed (R.about respondent.old)) (R.desk (R.about respondent.old))
@@ -155,7 +155,7 @@ fn answer_line<R: Respondent, K: Sink>(
     requires empty { text.old.bytes ≡ [] }
     requires room { MAX_LINE ≤ text.old.room }
     ensures goes { OnOk result ((rest : Option (List ℕ)) →
-        GoesOn (R.listed (R.about respondent.old)) (R.desk (R.about respondent.old))
+        SessionGoesOn (R.listed (R.about respondent.old)) (R.desk (R.about respondent.old))
         (session_view (R.seen respondent.old) (prepend_known (line.now ++ line_end ∷ []) rest) (K.written sink.old))
         (session_view (R.seen respondent.new) rest (K.written sink.new)) 1) }
     ensures ends { IfErr result (λ end. (rest : Option (List ℕ)) →

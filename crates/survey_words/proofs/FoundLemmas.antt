@@ -7,7 +7,7 @@ use Rattle.clap.specs.Walk.{Walk, Row, Rule, Text, is_empty, nothing_held, walk_
 use Rattle.clap.specs.Faults.{walk_fault, defaults_fault, check_fault, entered_fault, fault_of}
 use Rattle.clap.specs.Simple.{built, entered, matches_of}
 use Rattle.survey_words.specs.Items.{OptionTexts, is_spelled, no_options, options_after, options_of}
-use Rattle.survey_words.specs.Parsed.{simple_command, texts_in}
+use Rattle.survey_words.specs.Parsed.{simple_command, texts_found}
 use Rattle.survey_words.proofs.ParseSteps.{top, rules, settling}
 use Rattle.survey_words.proofs.RowLemmas.{both}
 use Rattle.survey_words.proofs.ReadLemmas.{Reads, no_texts, rows_end, follows}
@@ -59,7 +59,7 @@ after_walk (Some p) rows rows_now = ap (λ k. or_else k (check_fault top rows_no
 -- the parse finds the options that the words say, and fails where they say none
 pub found_so : (first : Text) (words : List Text) → list_all is_spelled words ≡ true → MatchOption (options_after None no_options words)
     (fault_of simple_command (first ∷ words) ≡ [] → ⊥)
-    (λ options. (fault_of simple_command (first ∷ words) ≡ []) × (texts_in (matches_of simple_command (first ∷ words)) ≡ options))
+    (λ options. (fault_of simple_command (first ∷ words) ≡ []) × (texts_found (matches_of simple_command (first ∷ words)) ≡ options))
 found_so first words spelled = go (options_after None no_options words) ((follows words spelled).rests nothing_held 1 refl refl refl)
   where
     start : Walk
@@ -70,7 +70,7 @@ found_so first words spelled = go (options_after None no_options words) ((follow
 
     go : (target : Option OptionTexts) → Reads (walk_from nothing_held) words target → MatchOption target
         (fault_of simple_command (first ∷ words) ≡ [] → ⊥)
-        (λ options. (fault_of simple_command (first ∷ words) ≡ []) × (texts_in (matches_of simple_command (first ∷ words)) ≡ options))
+        (λ options. (fault_of simple_command (first ∷ words) ≡ []) × (texts_found (matches_of simple_command (first ∷ words)) ≡ options))
     go None fails = λ none.
         let walk_passed = or_else_none (walk_fault top [] start words) _ none in
         let entry_passed = or_else_none (entered_fault (built simple_command) end.stopped) _ walk_passed.1 in
@@ -79,13 +79,13 @@ found_so first words spelled = go (options_after None no_options words) ((follow
     go (Some options) (whole, texts) =
         let parts = or_else_none (walk_fault top [] start words) (settling end.held) whole in (
           rw (parts.0, parts.1) (after_walk end.stopped (settled rules end.held).rows (fold with_default (settled rules end.held).rows rules)),
-          ap texts_in (no_rows rules (rows_end start words) refl) ∙ texts,
+          ap texts_found (no_rows rules (rows_end start words) refl) ∙ texts,
         )
 
 module _ {X : Type 0} (text : X → List ℕ) where
   -- the options that are found are those of the words after the first
   pub options_found : (words : List X) (rows : List Row) → 0 < length words → list_all is_spelled (map text (drop 1 words)) ≡ true
-      → fault_of simple_command (map text words) ≡ [] → rows ≡ matches_of simple_command (map text words) → Some (texts_in rows) ≡ options_of (map text (drop 1 words))
+      → fault_of simple_command (map text words) ≡ [] → rows ≡ matches_of simple_command (map text words) → Some (texts_found rows) ≡ options_of (map text (drop 1 words))
   options_found [] rows some spelled passed found = absurd (omega arith)
   options_found (word ∷ words) rows some spelled passed found =
       go (options_after None no_options (map text words)) (found_so (text word) (map text words) spelled)
@@ -93,10 +93,10 @@ module _ {X : Type 0} (text : X → List ℕ) where
     where
       go : (target : Option OptionTexts) → MatchOption target
           (fault_of simple_command (text word ∷ map text words) ≡ [] → ⊥)
-          (λ options. (fault_of simple_command (text word ∷ map text words) ≡ []) × (texts_in (matches_of simple_command (text word ∷ map text words)) ≡ options))
-          → Some (texts_in rows) ≡ target
+          (λ options. (fault_of simple_command (text word ∷ map text words) ≡ []) × (texts_found (matches_of simple_command (text word ∷ map text words)) ≡ options))
+          → Some (texts_found rows) ≡ target
       go None fails = absurd (fails passed)
-      go (Some options) (whole, texts) = ap (λ (o : OptionTexts). Some o) (ap texts_in found ∙ texts)
+      go (Some options) (whole, texts) = ap (λ (o : OptionTexts). Some o) (ap texts_found found ∙ texts)
 
   -- where the parse fails there are none
   pub options_missing : (words : List X) → 0 < length words → list_all is_spelled (map text (drop 1 words)) ≡ true
@@ -108,7 +108,7 @@ module _ {X : Type 0} (text : X → List ℕ) where
     where
       go : (target : Option OptionTexts) → MatchOption target
           (fault_of simple_command (text word ∷ map text words) ≡ [] → ⊥)
-          (λ options. (fault_of simple_command (text word ∷ map text words) ≡ []) × (texts_in (matches_of simple_command (text word ∷ map text words)) ≡ options))
+          (λ options. (fault_of simple_command (text word ∷ map text words) ≡ []) × (texts_found (matches_of simple_command (text word ∷ map text words)) ≡ options))
           → no_texts ≡ target
       go None never = refl
       go (Some options) (whole, texts) = absurd (fails whole)

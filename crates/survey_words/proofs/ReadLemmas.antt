@@ -11,7 +11,7 @@ use Rattle.clap.specs.declared.error.kind.ErrorKind.TheVariants as kind
 use Rattle.text_fields.specs.Reading.{◌>>=◌, read_word}
 use Rattle.text_fields.proofs.WordLaws.{word_field}
 use Rattle.survey_words.specs.Items.{Item, OptionTexts, is_hyphened, is_spelled, has_name, ends_name, cut, item_of, item_then, items_after, with_item, with_items, options_after}
-use Rattle.survey_words.specs.Parsed.{texts_in}
+use Rattle.survey_words.specs.Parsed.{texts_found}
 use Rattle.survey_words.proofs.ParseSteps.{Name, of_eliminators, of_connections, of_sample, of_shape, id_of, name_of, joined_word, top, rules, held, at, settling, put_row, again, name_met, name_met_late, joined_met, joined_met_late, after_name, after_joined, settling_value, settling_port, settled_value, settled_port, settling_none, value_met, after_value, plain_met, plain_met_late, after_plain}
 use Rattle.survey_words.proofs.RowLemmas.{both, has_value, absent, present, full_put, port_put, option_put, port_again, option_again, same_in, port_same}
 
@@ -130,7 +130,7 @@ rows_end w words = (settled rules (fold (walked rules []) w words).held).rows
 
 -- the walk fails where there are no options, and else finds them
 abbrev pub Reads : Walk → List Text → Option OptionTexts → Type 0
-Reads w words target = MatchOption target (total w words ≡ [] → ⊥) (λ options. (total w words ≡ []) × (texts_in (rows_end w words) ≡ options))
+Reads w words target = MatchOption target (total w words ≡ [] → ⊥) (λ options. (total w words ≡ []) × (texts_found (rows_end w words) ≡ options))
 
 goes : (w after : Walk) (word : Text) (words : List Text) (target : Option OptionTexts) → turn_fault top [] w word ≡ [] → walked rules [] w word ≡ after
     → Reads after words target → Reads w (word ∷ words) target
@@ -171,24 +171,24 @@ settled_of h = (settled rules h).rows
 
 pub record Follows (words : List Text) : Type 0 where
   pub rests : (h : Held) (position : ℕ) → settling h ≡ [] → list_all has_value (settled_of h) ≡ true → position ≡ place (first_of port (settled_of h))
-      → Reads (at h idle position) words (options_after None (texts_in (settled_of h)) words)
+      → Reads (at h idle position) words (options_after None (texts_found (settled_of h)) words)
   pub fails : (h : Held) (position : ℕ) (k : ErrorKind) (ks : Kinds) → settling h ≡ k ∷ ks → (position ≡ 1) ⊎ (position ≡ 2) → Reads (at h idle position) words None
   pub waits : (name : Name) (rows : List Row) (position skip : ℕ) → list_all has_value rows ≡ true → position ≡ place (first_of port rows)
-      → Reads (at (held rows (Some (id_of name, [])) skip) (option (id_of name)) position) words (options_after (Some (name_of name)) (texts_in rows) words)
+      → Reads (at (held rows (Some (id_of name, [])) skip) (option (id_of name)) position) words (options_after (Some (name_of name)) (texts_found rows) words)
 
 -- a value is held, and is used where it is the first
 module _ (words : List Text) (f : Follows words) (rows : List Row) (full : list_all has_value rows ≡ true) (id name value : Text) (h : Held) (position : ℕ)
     (settles : settling h ≡ again id rows) (used : settled_of h ≡ put_row id value rows) (near : (position ≡ 1) ⊎ (position ≡ 2))
-    (put_first : first_of id rows ≡ None → with_item (name, value) (texts_in rows) ≡ Some (texts_in (put_row id value rows)))
-    (put_late : (old : Text) → first_of id rows ≡ Some old → with_item (name, value) (texts_in rows) ≡ None)
+    (put_first : first_of id rows ≡ None → with_item (name, value) (texts_found rows) ≡ Some (texts_found (put_row id value rows)))
+    (put_late : (old : Text) → first_of id rows ≡ Some old → with_item (name, value) (texts_found rows) ≡ None)
     (placed : first_of id rows ≡ None → position ≡ place (first_of port (put_row id value rows))) where
-  value_used : Reads (at h idle position) words (added (name, value) (texts_in rows) words)
+  value_used : Reads (at h idle position) words (added (name, value) (texts_found rows) words)
   value_used = go (first_of id rows) refl
     where
-      go : (o : Option Text) → first_of id rows ≡ o → Reads (at h idle position) words (added (name, value) (texts_in rows) words)
+      go : (o : Option Text) → first_of id rows ≡ o → Reads (at h idle position) words (added (name, value) (texts_found rows) words)
       go None none =
           let one = ap (λ (o : Option OptionTexts). o >>= λ now. options_after None now words) (put_first none) in
-          let texts = ap (λ (r : List Row). options_after None (texts_in r) words) (sym used) in
+          let texts = ap (λ (r : List Row). options_after None (texts_found r) words) (sym used) in
           as_target (at h idle position) words _ _ (one ∙ texts)
           (f.rests h position (settles ∙ again_none id rows (absent rows full value id none)) (ap (list_all has_value) used ∙ full_put rows full value id none)
           (placed none ∙ ap (λ (r : List Row). place (first_of port r)) (sym used)))
@@ -201,37 +201,37 @@ or_else_same e = ap (λ k. or_else k []) e
 
 module _ (words : List Text) (f : Follows words) where
   idle_word : (word : Text) → Spelled word → (h : Held) (position : ℕ) → settling h ≡ [] → list_all has_value (settled_of h) ≡ true
-      → position ≡ place (first_of port (settled_of h)) → Reads (at h idle position) (word ∷ words) (options_after None (texts_in (settled_of h)) (word ∷ words))
+      → position ≡ place (first_of port (settled_of h)) → Reads (at h idle position) (word ∷ words) (options_after None (texts_found (settled_of h)) (word ∷ words))
   idle_word word (as_plain plain) h position settles full placed = go (first_of port rows) refl
     where
       rows : List Row
       rows = settled_of h
 
-      go : (o : Option Text) → first_of port rows ≡ o → Reads (at h idle position) (word ∷ words) (options_after None (texts_in rows) (word ∷ words))
+      go : (o : Option Text) → first_of port rows ≡ o → Reads (at h idle position) (word ∷ words) (options_after None (texts_found rows) (word ∷ words))
       go None none =
           let first : position ≡ 1 = placed ∙ ap place none in
           let later : 2 ≡ place (first_of port (put_row port word rows)) = sym (ap place (same_in rows full word port refl none)) in
           let used = value_used words f rows full port [] word (held rows (Some (port, word ∷ [])) h.skip) 2 (settling_port rows word h.skip) (settled_port rows word) (inr refl)
           (port_put rows full word) (port_again rows full word) (λ none_yet. later) in
-          let here = as_target (at h idle 1) (word ∷ words) _ _ (plain_first word (texts_in rows) words plain)
+          let here = as_target (at h idle 1) (word ∷ words) _ _ (plain_first word (texts_found rows) words plain)
           (goes (at h idle 1) _ word words _ (plain_met word h plain ∙ settles) (after_plain word h plain) used) in
-          let P : ℕ → Type 0 = λ (place_now : ℕ). Reads (at h idle place_now) (word ∷ words) (options_after None (texts_in rows) (word ∷ words)) in
+          let P : ℕ → Type 0 = λ (place_now : ℕ). Reads (at h idle place_now) (word ∷ words) (options_after None (texts_found rows) (word ∷ words)) in
           subst P (sym first) here
       go (Some old) some =
           let second : position ≡ 2 = placed ∙ ap place some in
-          let none = plain_first word (texts_in rows) words plain ∙ ap (λ (o : Option OptionTexts). o >>= λ now. options_after None now words) (port_again rows full word old some) in
+          let none = plain_first word (texts_found rows) words plain ∙ ap (λ (o : Option OptionTexts). o >>= λ now. options_after None now words) (port_again rows full word old some) in
           let here = as_target (at h idle 2) (word ∷ words) None _ none (stops (at h idle 2) word words _ _ (plain_met_late word h plain)) in
-          let P : ℕ → Type 0 = λ (place_now : ℕ). Reads (at h idle place_now) (word ∷ words) (options_after None (texts_in rows) (word ∷ words)) in
+          let P : ℕ → Type 0 = λ (place_now : ℕ). Reads (at h idle place_now) (word ∷ words) (options_after None (texts_found rows) (word ∷ words)) in
           subst P (sym second) here
   idle_word word (as_name name is) h position settles full placed =
       let rows = settled_of h in
-      let here = as_target (at h idle position) (name_of name ∷ words) _ _ (name_first name (texts_in rows) words)
+      let here = as_target (at h idle position) (name_of name ∷ words) _ _ (name_first name (texts_found rows) words)
       (goes (at h idle position) _ (name_of name) words _ (name_met name h position ∙ or_else_same settles) (after_name name h position) (f.waits name rows position h.skip full placed)) in
-      let P : Text → Type 0 = λ (text : Text). Reads (at h idle position) (text ∷ words) (options_after None (texts_in rows) (text ∷ words)) in
+      let P : Text → Type 0 = λ (text : Text). Reads (at h idle position) (text ∷ words) (options_after None (texts_found rows) (text ∷ words)) in
       subst P (sym is) here
   idle_word word (as_joined name value is) h position settles full placed =
-      let P : Text → Type 0 = λ (text : Text). Reads (at h idle position) (text ∷ words) (options_after None (texts_in rows) (text ∷ words)) in
-      subst P (sym is) (as_target (at h idle position) (joined_word name value ∷ words) _ _ (joined_first name value (texts_in rows) words) (go (first_of (id_of name) rows) refl))
+      let P : Text → Type 0 = λ (text : Text). Reads (at h idle position) (text ∷ words) (options_after None (texts_found rows) (text ∷ words)) in
+      subst P (sym is) (as_target (at h idle position) (joined_word name value ∷ words) _ _ (joined_first name value (texts_found rows) words) (go (first_of (id_of name) rows) refl))
     where
       rows : List Row
       rows = settled_of h
@@ -239,7 +239,7 @@ module _ (words : List Text) (f : Follows words) where
       met : turn_fault top [] (at h idle position) (joined_word name value) ≡ or_else (or_else [] (again (id_of name) rows)) []
       met = joined_met name value h position ∙ ap (λ k. or_else (or_else k (again (id_of name) rows)) []) settles
 
-      go : (o : Option Text) → first_of (id_of name) rows ≡ o → Reads (at h idle position) (joined_word name value ∷ words) (added (name_of name, value) (texts_in rows) words)
+      go : (o : Option Text) → first_of (id_of name) rows ≡ o → Reads (at h idle position) (joined_word name value ∷ words) (added (name_of name, value) (texts_found rows) words)
       go None none =
           let fresh = again_none (id_of name) rows (absent rows full value (id_of name) none) in
           let one = ap (λ (o : Option OptionTexts). o >>= λ now. options_after None now words) (option_put rows full value name none) in
@@ -268,22 +268,22 @@ module _ (words : List Text) (f : Follows words) where
       (joined_met name value h position ∙ ap (λ kinds. or_else (or_else kinds (again (id_of name) (settled_of h))) []) settles))
 
   waits_word : (word : Text) → Spelled word → (name : Name) (rows : List Row) (position skip : ℕ) → list_all has_value rows ≡ true → position ≡ place (first_of port rows)
-      → Reads (at (held rows (Some (id_of name, [])) skip) (option (id_of name)) position) (word ∷ words) (options_after (Some (name_of name)) (texts_in rows) (word ∷ words))
+      → Reads (at (held rows (Some (id_of name, [])) skip) (option (id_of name)) position) (word ∷ words) (options_after (Some (name_of name)) (texts_found rows) (word ∷ words))
   waits_word word (as_plain plain) name rows position skip full placed =
       let h = held rows (Some (id_of name, word ∷ [])) skip in
       let used = value_used words f rows full (id_of name) (name_of name) word h position (settling_value name rows word skip) (settled_value name rows word) (first_or_second (first_of port rows) position placed)
       (option_put rows full word name) (option_again rows full word name) (λ none. placed ∙ sym (ap place (port_same rows full word name none))) in
-      as_target (at (held rows (Some (id_of name, [])) skip) (option (id_of name)) position) (word ∷ words) _ _ (value_first (name_of name) word (texts_in rows) words plain)
+      as_target (at (held rows (Some (id_of name, [])) skip) (option (id_of name)) position) (word ∷ words) _ _ (value_first (name_of name) word (texts_found rows) words plain)
       (goes _ (at h idle position) word words _ (value_met name rows position skip word plain) (after_value name rows position skip word plain) used)
   waits_word word (as_name other is) name rows position skip full placed =
       let h = held rows (Some (id_of name, [])) skip in
-      let P : Text → Type 0 = λ (text : Text). Reads (at h (option (id_of name)) position) (text ∷ words) (options_after (Some (name_of name)) (texts_in rows) (text ∷ words)) in
-      subst P (sym is) (as_target (at h (option (id_of name)) position) (name_of other ∷ words) None _ (name_is_none (name_of name) other (texts_in rows) words)
+      let P : Text → Type 0 = λ (text : Text). Reads (at h (option (id_of name)) position) (text ∷ words) (options_after (Some (name_of name)) (texts_found rows) (text ∷ words)) in
+      subst P (sym is) (as_target (at h (option (id_of name)) position) (name_of other ∷ words) None _ (name_is_none (name_of name) other (texts_found rows) words)
       (stops (at h (option (id_of name)) position) (name_of other) words _ _ (name_met_late other h position (id_of name) ∙ or_else_same (settling_none name rows skip))))
   waits_word word (as_joined other value is) name rows position skip full placed =
       let h = held rows (Some (id_of name, [])) skip in
-      let P : Text → Type 0 = λ (text : Text). Reads (at h (option (id_of name)) position) (text ∷ words) (options_after (Some (name_of name)) (texts_in rows) (text ∷ words)) in
-      subst P (sym is) (as_target (at h (option (id_of name)) position) (joined_word other value ∷ words) None _ (joined_is_none (name_of name) other value (texts_in rows) words)
+      let P : Text → Type 0 = λ (text : Text). Reads (at h (option (id_of name)) position) (text ∷ words) (options_after (Some (name_of name)) (texts_found rows) (text ∷ words)) in
+      subst P (sym is) (as_target (at h (option (id_of name)) position) (joined_word other value ∷ words) None _ (joined_is_none (name_of name) other value (texts_found rows) words)
       (stops (at h (option (id_of name)) position) (joined_word other value) words _ _
       (joined_met_late other value h position (id_of name) ∙ ap (λ kinds. or_else (or_else kinds (again (id_of other) (settled_of h))) []) (settling_none name rows skip))))
 

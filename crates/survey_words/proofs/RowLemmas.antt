@@ -8,7 +8,7 @@ use Rattle.clap.specs.Walk.{Row, Text, at_row, more_values, has_row, first_of}
 use Rattle.clap.specs.declared.builder.value_parser.ValueParser.TheVariants as vp
 use Rattle.clap.specs.declared.parser.matches.ValueSource.TheVariants.{CommandLine}
 use Rattle.survey_words.specs.Items.{OptionTexts, with_item}
-use Rattle.survey_words.specs.Parsed.{texts_in}
+use Rattle.survey_words.specs.Parsed.{texts_found}
 use Rattle.survey_words.proofs.ParseSteps.{Name, of_eliminators, of_connections, of_sample, of_shape, id_of, name_of, put_row}
 
 pub both : (a b : Bool) → a && b ≡ true → (a ≡ true) × (b ≡ true)
@@ -91,11 +91,11 @@ module _ (rows : List Row) (full : list_all has_value rows ≡ true) (value : Te
   five port eliminators connections sample shape =
       record { port = port; eliminators = eliminators; connections = connections; sample = sample; shape = shape }
 
-  pub port_put : first_of (codes "port") rows ≡ None → with_item ([], value) (texts_in rows) ≡ Some (texts_in (put_row (codes "port") value rows))
+  pub port_put : first_of (codes "port") rows ≡ None → with_item ([], value) (texts_found rows) ≡ Some (texts_found (put_row (codes "port") value rows))
   port_put none = rw none (λ i. Some (five (sym (same_in (codes "port") refl none) i) (sym (other_in (codes "port") (codes "eliminators") refl none) i)
       (sym (other_in (codes "port") (codes "connections") refl none) i) (sym (other_in (codes "port") (codes "sample") refl none) i) (sym (other_in (codes "port") (codes "shape") refl none) i)))
 
-  pub option_put : (name : Name) → first_of (id_of name) rows ≡ None → with_item (name_of name, value) (texts_in rows) ≡ Some (texts_in (put_row (id_of name) value rows))
+  pub option_put : (name : Name) → first_of (id_of name) rows ≡ None → with_item (name_of name, value) (texts_found rows) ≡ Some (texts_found (put_row (id_of name) value rows))
   option_put of_eliminators none = rw none (λ i. Some (five (sym (other_in (codes "eliminators") (codes "port") refl none) i) (sym (same_in (codes "eliminators") refl none) i)
       (sym (other_in (codes "eliminators") (codes "connections") refl none) i) (sym (other_in (codes "eliminators") (codes "sample") refl none) i) (sym (other_in (codes "eliminators") (codes "shape") refl none) i)))
   option_put of_connections none = rw none (λ i. Some (five (sym (other_in (codes "connections") (codes "port") refl none) i) (sym (other_in (codes "connections") (codes "eliminators") refl none) i)
@@ -105,10 +105,10 @@ module _ (rows : List Row) (full : list_all has_value rows ≡ true) (value : Te
   option_put of_shape none = rw none (λ i. Some (five (sym (other_in (codes "shape") (codes "port") refl none) i) (sym (other_in (codes "shape") (codes "eliminators") refl none) i)
       (sym (other_in (codes "shape") (codes "connections") refl none) i) (sym (other_in (codes "shape") (codes "sample") refl none) i) (sym (same_in (codes "shape") refl none) i)))
 
-  pub port_again : (old : Text) → first_of (codes "port") rows ≡ Some old → with_item ([], value) (texts_in rows) ≡ None
+  pub port_again : (old : Text) → first_of (codes "port") rows ≡ Some old → with_item ([], value) (texts_found rows) ≡ None
   port_again old some = rw some refl
 
-  pub option_again : (name : Name) (old : Text) → first_of (id_of name) rows ≡ Some old → with_item (name_of name, value) (texts_in rows) ≡ None
+  pub option_again : (name : Name) (old : Text) → first_of (id_of name) rows ≡ Some old → with_item (name_of name, value) (texts_found rows) ≡ None
   option_again of_eliminators old some = rw some refl
   option_again of_connections old some = rw some refl
   option_again of_sample old some = rw some refl

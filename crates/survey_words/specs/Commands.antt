@@ -4,18 +4,18 @@ use Rattle.text_fields.specs.Reading.{◌>>=◌}
 use Rattle.survey_words.specs.declared.limits.TheConstants.{DEFAULT_ELIMINATORS, MAX_ELIMINATORS, MAX_CONNECTIONS, MAX_SEED, MAX_PORT}
 use Rattle.survey_words.specs.declared.commands.Command.{Command}
 use Rattle.survey_words.specs.declared.commands.Command.TheVariants.{Check, Migrate, Rank, Sample, Run, RunSample, Serve}
-use Rattle.survey_words.specs.Numbers.{number_of}
+use Rattle.survey_words.specs.Numbers.{number_within}
 use Rattle.survey_words.specs.Shapes.{IsShape, shape_of}
 use Rattle.survey_words.specs.Items.{OptionTexts, options_of}
 
 -- the value of an option, or its default where it isn't given
 abbrev pub number_or : ℕ → ℕ → ℕ → Option (List ℕ) → Option ℕ
 number_or default least most None = Some default
-number_or default least most (Some word) = number_of least most word
+number_or default least most (Some word) = number_within least most word
 
 -- the seed that a word is
 abbrev pub seed_of : List ℕ → Option ℕ
-seed_of word = number_of 0 MAX_SEED word
+seed_of word = number_within 0 MAX_SEED word
 
 -- how many eliminators an option asks for
 abbrev pub eliminators_of : Option (List ℕ) → Option ℕ
@@ -48,7 +48,7 @@ run_of options =
 abbrev pub serve_of : OptionTexts → Option Command
 serve_of options =
     if is_some options.sample || is_some options.shape then None
-    else (options.port >>= number_of 1 MAX_PORT >>= λ port. eliminators_of options.eliminators >>= λ eliminators.
+    else (options.port >>= number_within 1 MAX_PORT >>= λ port. eliminators_of options.eliminators >>= λ eliminators.
     number_or MAX_CONNECTIONS 1 MAX_CONNECTIONS options.connections >>= λ connections. Some (Serve port eliminators connections))
 
 -- the command of this name, with these words after it

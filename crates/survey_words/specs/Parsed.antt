@@ -16,8 +16,8 @@ simple_command = with_rule (with_rule (with_rule (with_rule (with_rule
     (option_rule (codes "eliminators"))) (option_rule (codes "connections"))) (option_rule (codes "sample"))) (option_rule (codes "shape"))
 
 -- the options in these matches
-abbrev pub texts_in : List Row → OptionTexts
-texts_in rows = record {
+abbrev pub texts_found : List Row → OptionTexts
+texts_found rows = record {
   port = first_of (codes "port") rows;
   eliminators = first_of (codes "eliminators") rows;
   connections = first_of (codes "connections") rows;

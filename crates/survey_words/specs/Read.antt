@@ -9,8 +9,8 @@ abbrev pub text_lent : Option (Bor (List ℕ)) → Option (List ℕ)
 text_lent = option_map (λ text. text.now)
 
 -- the texts of the options
-abbrev pub texts_of : Options → OptionTexts
-texts_of options = record {
+abbrev pub option_texts : Options → OptionTexts
+option_texts options = record {
   port = text_lent options.port;
   eliminators = text_lent options.eliminators;
   connections = text_lent options.connections;

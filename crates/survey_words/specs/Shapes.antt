@@ -5,7 +5,7 @@ use Rattle.text_fields.specs.Spelling.{is_next}
 use Rattle.text_fields.specs.Reading.{◌>>=◌, read_word, read_number}
 use Rattle.survey_words.specs.declared.limits.TheConstants.{MAX_SHAPE_COUNTS, MAX_SHAPE_NUMBER}
 use Rattle.survey_words.specs.declared.shapes.Shape.{Shape}
-use Rattle.survey_words.specs.Numbers.{whole}
+use Rattle.survey_words.specs.Numbers.{whole_text}
 
 -- level counts joined by `x`, at least one and at most `room`, and the text after them
 unfoldable pub read_counts : ℕ → List ℕ → Option (List ℕ × List ℕ)
@@ -26,7 +26,7 @@ read_shape text = read_counts MAX_SHAPE_COUNTS text >>= λ counts. read_degree c
 
 -- the shape that a word is
 abbrev pub shape_of : List ℕ → Option Shape
-shape_of word = whole (read_shape word)
+shape_of word = whole_text (read_shape word)
 
 -- level counts within the limits
 pub record AreCounts (counts : List ℕ) : Type 0 where

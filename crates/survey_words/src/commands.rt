@@ -1,7 +1,7 @@
 //! The command that the words name.
 ghost use Rattle.std.specs.Prelude.{◌≡◌, ◌≤◌, Some, IfOk, IfSome, map, string_bytes};
 ghost use Rattle.survey_words.specs.Commands.{IsWithin, alone as alone_by, eliminators_of, number_or as number_or_by, run_of, run_with, sample_of, serve_of, words_of};
-ghost use Rattle.survey_words.specs.Read.{text_lent, texts_of};
+ghost use Rattle.survey_words.specs.Read.{text_lent, option_texts};
 
 use crate::NoMemory;
 use crate::items::{Options, read_options};
@@ -99,7 +99,7 @@ fn sample(alloc: Global, words: &[String]) -> Result<Option<Command>, NoMemory>
 
 /// The run of a script or of a sample survey.
 fn run(alloc: Global, options: Options<'_>) -> Result<Option<Command>, NoMemory>
-    ensures exact { IfOk result (λ command. command ≡ run_of (texts_of options.entry)) }
+    ensures exact { IfOk result (λ command. command ≡ run_of (option_texts options.entry)) }
     ensures limits { IfOk result (λ command. IfSome command IsWithin) }
 {
     if options.port.is_some() || options.connections.is_some() {
@@ -141,7 +141,7 @@ fn run_sample(
 
 /// The serving of a port.
 fn serve(options: Options<'_>) -> Option<Command>
-    ensures exact { result ≡ serve_of (texts_of options.entry) }
+    ensures exact { result ≡ serve_of (option_texts options.entry) }
     ensures limits { IfSome result IsWithin }
 {
     if options.sample.is_some() || options.shape.is_some() {

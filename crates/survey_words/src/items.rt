@@ -3,8 +3,8 @@ ghost use Rattle.std.specs.Prelude.{◌≡◌, ◌<◌, [], Some, length, drop, 
 ghost use Rattle.std.specs.List.{list_all};
 ghost use Rattle.clap.specs.Words.{app_of, fault_of, found_of, matches_of, rows_of, rule_of};
 ghost use Rattle.survey_words.specs.Items.{has_name as has_name_by, is_hyphened as is_hyphened_by, is_spelled as is_spelled_by, options_of};
-ghost use Rattle.survey_words.specs.Parsed.{simple_command, option_rule, texts_in};
-ghost use Rattle.survey_words.specs.Read.{texts_of};
+ghost use Rattle.survey_words.specs.Parsed.{simple_command, option_rule, texts_found};
+ghost use Rattle.survey_words.specs.Read.{option_texts};
 
 use crate::NoMemory;
 use clap::error::ErrorKind;
@@ -28,7 +28,7 @@ pub(crate) fn read_options<'a>(
     words: &'a [String],
 ) -> Result<Option<Options<'a>>, NoMemory>
     requires { 0 < length words.now }
-    ensures { IfOk result (λ options. option_map texts_of options ≡ options_of (map (λ word. string_bytes word) (drop 1 words.entry.now))) }
+    ensures { IfOk result (λ options. option_map option_texts options ≡ options_of (map (λ word. string_bytes word) (drop 1 words.entry.now))) }
 {
     if !are_spelled(&words[1..]) {
         return Ok(None);
@@ -41,7 +41,7 @@ pub(crate) fn read_options<'a>(
 
 /// The options that were found.
 fn options_in<'a>(matches: &ArgMatches<'a>) -> Options<'a>
-    ensures { texts_of result ≡ texts_in (rows_of (found_of matches.entry.now)) }
+    ensures { option_texts result ≡ texts_found (rows_of (found_of matches.entry.now)) }
 {
     Options {
         port: matches.get_str("port"),
