@@ -1,6 +1,6 @@
 //! Sessions: lines of messages come in, the lines of their replies go out.
 //!
-//! `handle` answers one line after the hello: by one exchange with the respondent, as `survey_replies` has it. A line that is no
+//! `handle` answers one line after the hello, `handle_message` its message: by one exchange with the respondent, as `survey_replies` has it. A line that is no
 //! message, and a second hello, are refused and change nothing. `session` reads lines from a source and writes the texts of their
 //! replies to a sink, up to the first bye, the end of input, a line that is too long, as many messages as are allowed, a fault, or
 //! out of memory. Its clause `IsSession` names the lines with what came of each: they are the front of the text that lay ahead,
@@ -12,5 +12,5 @@ mod handling;
 pub mod laws;
 mod sessions;
 
-pub use handling::handle;
+pub use handling::{handle, handle_message};
 pub use sessions::{MAX_MESSAGES, SessionEnd, session};
