@@ -1,9 +1,12 @@
 -- What a command writes, and the status that it ends with.
-use Rattle.std.specs.Prelude.{◌≡◌, ◌⊎◌, ℕ, List, [], ◌++◌, map, codes, Option, Some, String, IfSome, Result, Ok, Err, Vec}
+use Rattle.std.specs.Prelude.{◌≡◌, ◌⊎◌, ℕ, List, [], ◌++◌, map, codes, Option, Some, None, MatchOption, String, IfSome, Result, Ok, Err, Vec}
 use Rattle.std.specs.Fmt.{decimal}
 use Rattle.std.specs.String.{string_bytes}
 use Rattle.std.specs.declared.alloc.Global.{Global}
 use Rattle.edges.specs.Told.{Appends, AppendsPrefix}
+use Rattle.criteria_model.specs.declared.faults.ModelFault.{ModelFault}
+use Rattle.criteria_model.specs.Criteria.{Criteria}
+use Rattle.criteria_model.specs.Faults.{model_fault}
 use Rattle.result_file.specs.declared.verdicts.Checked.{Checked}
 use Rattle.result_file.specs.declared.verdicts.Checked.TheVariants.{Valid, ValidComplete, Invalid, Unfinished, ReadFault, NoMemory}
 use Rattle.result_file.specs.Words.{part_text}
@@ -12,15 +15,19 @@ use Rattle.result_file.specs.Checked.{IsFileOf, IsToldChecked}
 use Rattle.result_file.specs.Contents.{Content}
 use Rattle.result_file.specs.Migrated.{IsMigrated, IsResultFile}
 use Rattle.survey_words.specs.declared.commands.Command.{Command}
-use Rattle.survey_words.specs.declared.commands.Command.TheVariants.{Check, Migrate, Rank}
+use Rattle.survey_words.specs.declared.commands.Command.TheVariants.{Check, Migrate, Rank, Sample}
+use Rattle.survey_words.specs.declared.shapes.Shape.{Shape}
 use Rattle.survey_words.specs.Commands.{words_of}
 use Rattle.result_file.specs.Worth.{EliminationsAreSound, SettlesAll}
 use Rattle.ranking.specs.declared.stops.RankStop.TheVariants as stop
 use Rattle.ranking.specs.NamedWorths.{NamedWorthView}
+use Rattle.sample_survey.specs.declared.summary.Summary.{Summary}
+use Rattle.sample_survey.specs.Samples.{IsSampleOf}
 use Rattle.survey_server.specs.declared.rank_input.RankRefusal.{RankRefusal}
 use Rattle.survey_server.specs.declared.rank_input.RankRefusal.TheVariants.{Definition, Values, Stopped}
 use Rattle.survey_server.specs.RankInput.{IsInputOutcome, IsToldInput}
-use Rattle.survey_server.specs.RankTexts.{ranking_text, refusal_line}
+use Rattle.survey_server.specs.RankTexts.{model_line, ranking_text, refusal_line}
+use Rattle.survey_server.specs.SampleTexts.{sample_line}
 
 -- the command that the words name
 abbrev pub command_in : List (String Global) → Option Command
@@ -36,13 +43,18 @@ IsMigrate words = command_in words ≡ Some Migrate
 abbrev pub IsRank : List (String Global) → Type 0
 IsRank words = command_in words ≡ Some Rank
 
+-- the words name the sample survey of a seed and a shape
+abbrev pub IsSampleCommand : List (String Global) → ℕ → Shape → Type 0
+IsSampleCommand words seed shape = command_in words ≡ Some (Sample seed shape)
+
 -- the words name no command of these
 abbrev pub IsNoCommand : List (String Global) → Type 0
-IsNoCommand words = (¬ IsCheck words) × (¬ IsMigrate words) × (¬ IsRank words)
+IsNoCommand words =
+    (¬ IsCheck words) × (¬ IsMigrate words) × (¬ IsRank words) × ((seed : ℕ) (shape : Shape) → ¬ IsSampleCommand words seed shape)
 
 -- the line that words of no command get
 abbrev pub usage_line : List ℕ
-usage_line = codes "usage: paprika check | migrate | rank\n"
+usage_line = codes "usage: paprika check | migrate | rank | sample SEED SHAPE\n"
 
 -- the line of a verdict
 abbrev pub verdict_line : Checked → List ℕ
@@ -145,3 +157,24 @@ pub record RanksTable (told before now : Option (List ℕ)) (status : ℕ) : Typ
 -- the source holds a text that has a ranking, and that is known
 abbrev pub IsRankable : Option (List ℕ) → Type 0
 IsRankable told = (text : List ℕ) × (ranked : List NamedWorthView) × (told ≡ Some text) × IsInputOutcome text (Ok ranked)
+
+-- the line of the sample survey of a seed and a shape of this model was written with status 0, or there was no memory for it
+abbrev pub SamplesModel : ℕ → Shape → Criteria → Option (List ℕ) → Option (List ℕ) → ℕ → Type 0
+SamplesModel seed shape criteria before now status =
+    ((summary : Summary) × IsSampleOf criteria seed summary × Writes (sample_line seed shape summary) 0 before now status)
+    ⊎ IsSilent 5 before now status
+
+-- the line of a fault was written with status 1, or there was no memory for it
+abbrev pub RefusesModel : ModelFault → Option (List ℕ) → Option (List ℕ) → ℕ → Type 0
+RefusesModel fault before now status = Writes (model_line fault) 1 before now status ⊎ IsSilent 5 before now status
+
+-- a sample survey of the shape's model was run and answered; or, where the shape makes none, its first fault was
+abbrev pub SamplesShape : ℕ → Shape → Option (List ℕ) → Option (List ℕ) → ℕ → Type 0
+SamplesShape seed shape before now status =
+    MatchOption (model_fault shape.counts shape.degree)
+    (SamplesModel seed shape (record { levels = shape.counts; degree = shape.degree }) before now status)
+    (λ fault. RefusesModel fault before now status)
+
+-- the shape makes a model
+abbrev pub IsModelShape : Shape → Type 0
+IsModelShape shape = model_fault shape.counts shape.degree ≡ None

@@ -1,3 +1,4 @@
 pub mod RankInput
 pub mod RankTexts
+pub mod SampleTexts
 pub mod Command

@@ -1,21 +1,23 @@
-ghost use Rattle.std.specs.Prelude.{◌≡◌, ◌≢◌, ◌↔◌, ◌⊎◌, []};
+ghost use Rattle.std.specs.Prelude.{◌≡◌, ◌≢◌, ◌↔◌, ◌⊎◌, ℕ, []};
 ghost use Rattle.edges.specs.Faults.{CountsFaults, HasRisen};
-ghost use Rattle.survey_server.specs.Command.{IsCheck, IsMigrate, IsRank, IsNoCommand, verdict_line, Writes, Answers, AnswersRefusal, ChecksFile, MigratesFile, RanksTable, IsWorthAnswer, IsValidFile, IsValidResult, IsRankable, ShowsUsage};
+ghost use Rattle.survey_words.specs.Shapes.{IsShape};
+ghost use Rattle.survey_words.specs.declared.shapes.Shape.{Shape};
+ghost use Rattle.survey_server.specs.Command.{IsCheck, IsMigrate, IsRank, IsSampleCommand, IsNoCommand, IsModelShape, verdict_line, Writes, Answers, AnswersRefusal, ChecksFile, MigratesFile, RanksTable, RefusesModel, SamplesModel, SamplesShape, IsWorthAnswer, IsValidFile, IsValidResult, IsRankable, ShowsUsage};
 
 use crate::rank_input::{RankRefusal, rank_input};
-use crate::rank_texts::{add_refusal, ranking_text_of};
+use crate::rank_texts::{ROOM, add_model_fault, add_refusal, ranking_text_of};
+use crate::sample_texts::sample_line_of;
+use criteria_model::{Model, ModelFault};
 use edges::{Sink, Source, Text, put_bytes};
 use itoa::Buffer;
 use ranking::RankStop;
 use result_file::{Checked, check_result, migrate_result};
+use sample_survey::solo_sample;
 use std::alloc::Global;
-use survey_words::{Command, read_words};
+use survey_words::{Command, Shape, read_words};
 
 /// The line that words of no command get.
-const USAGE: &[u8] = b"usage: paprika check | migrate | rank\n";
-
-/// The longest line that is written, and more.
-const ROOM: u32 = 64;
+const USAGE: &[u8] = b"usage: paprika check | migrate | rank | sample SEED SHAPE\n";
 
 /// The statuses that a command ends with.
 const DONE: u8 = 0;
@@ -40,8 +42,11 @@ pub fn plain_command<S: Source, K: Sink>(
     ensures check { IsCheck words.now → ChecksFile (S.left source.old) (S.left source.new) (K.written sink.old) (K.written sink.new) result }
     ensures migrate { IsMigrate words.now → MigratesFile (S.left source.old) (K.written sink.old) (K.written sink.new) result }
     ensures rank { IsRank words.now → RanksTable (S.left source.old) (K.written sink.old) (K.written sink.new) result }
+    ensures sample { (seed : ℕ) (shape : Shape) → IsSampleCommand words.now seed shape
+        → SamplesShape seed shape (K.written sink.old) (K.written sink.new) result }
     ensures usage { IsNoCommand words.now → ShowsUsage (K.written sink.old) (K.written sink.new) result }
     ensures unread { IsNoCommand words.now → source.new ≡ source.old }
+    ensures sample_unread { (seed : ℕ) (shape : Shape) → IsSampleCommand words.now seed shape → source.new ≡ source.old }
     ensures read_fault { CountsFaults (result ≡ 3) (S.faults source.old) (S.faults source.new) }
     ensures write_fault { CountsFaults (result ≡ 4) (K.faults sink.old) (K.faults sink.new) }
     ensures worth { IsCheck words.now → IsWorthAnswer (S.left source.old) (K.written sink.old) (K.written sink.new) result }
@@ -56,12 +61,15 @@ pub fn plain_command<S: Source, K: Sink>(
     ensures ranked { IsRank words.now → IsRankable (S.left source.old)
         → (¬ HasRisen (S.faults source.old) (S.faults source.new)) → (¬ HasRisen (K.faults sink.old) (K.faults sink.new))
         → (result ≡ 0) ⊎ (result ≡ 5) }
+    ensures sampled { (seed : ℕ) (shape : Shape) → IsSampleCommand words.now seed shape → IsModelShape shape
+        → (¬ HasRisen (K.faults sink.old) (K.faults sink.new)) → (result ≡ 0) ⊎ (result ≡ 5) }
 {
     match read_words(alloc, words) {
         Err(_) => NO_MEMORY,
         Ok(Some(Command::Check)) => check(alloc, source, sink),
         Ok(Some(Command::Migrate)) => migrate(alloc, source, sink),
         Ok(Some(Command::Rank)) => rank_table(alloc, source, sink),
+        Ok(Some(Command::Sample { seed, shape })) => sample(alloc, seed, &shape, sink),
         Ok(_) => show_usage(alloc, sink),
     }
 }
@@ -129,10 +137,53 @@ fn rank_table<S: Source, K: Sink>(alloc: Global, source: &mut S, sink: &mut K) -
     }
 }
 
+/// Runs the sample survey of a seed and a shape.
+fn sample<K: Sink>(alloc: Global, seed: u32, shape: &Shape, sink: &mut K) -> u8
+    requires { IsShape shape.now }
+    ensures sampled { SamplesShape seed shape.now (K.written sink.old) (K.written sink.new) result }
+    ensures no_read_fault { result ≢ 3 }
+    ensures write_fault { CountsFaults (result ≡ 4) (K.faults sink.old) (K.faults sink.new) }
+{
+    match Model::new(shape.counts.as_slice(), shape.degree) {
+        Ok(model) => sample_model(alloc, seed, shape, &model, sink),
+        Err(fault) => refuse_shape(alloc, fault, sink),
+    }
+}
+
+/// Runs the sample survey of a seed and the model of a shape.
+fn sample_model<K: Sink>(alloc: Global, seed: u32, shape: &Shape, model: &Model, sink: &mut K) -> u8
+    ensures sampled { SamplesModel seed shape.now model.now (K.written sink.old) (K.written sink.new) result }
+    ensures no_read_fault { result ≢ 3 }
+    ensures write_fault { CountsFaults (result ≡ 4) (K.faults sink.old) (K.faults sink.new) }
+{
+    let summary = match solo_sample(alloc, seed, model) {
+        Ok(summary) => summary,
+        Err(_) => return NO_MEMORY,
+    };
+    match sample_line_of(alloc, seed, shape, &summary) {
+        Ok(line) => write(line.as_slice(), DONE, sink),
+        Err(_) => NO_MEMORY,
+    }
+}
+
+/// Answers a shape that makes no model.
+fn refuse_shape<K: Sink>(alloc: Global, fault: ModelFault, sink: &mut K) -> u8
+    ensures refused { RefusesModel fault (K.written sink.old) (K.written sink.new) result }
+    ensures no_read_fault { result ≢ 3 }
+    ensures write_fault { CountsFaults (result ≡ 4) (K.faults sink.old) (K.faults sink.new) }
+{
+    let mut text = match Text::reserve(alloc, ROOM) {
+        Ok(text) => text,
+        Err(_) => return NO_MEMORY,
+    };
+    add_model_fault(&mut text, fault);
+    write(text.bytes(), REFUSED, sink)
+}
+
 /// Answers a refusal by its line, in an empty text, and by its status.
 fn refuse<K: Sink>(text: Text, refusal: RankRefusal, sink: &mut K) -> u8
     requires empty { text.bytes ≡ [] }
-    requires room { text.room ≡ 64 }
+    requires room { text.room ≡ ROOM }
     ensures answered { AnswersRefusal refusal (K.written sink.old) (K.written sink.new) result }
     ensures read_fault { (result ≡ 3) ↔ (refusal ≡ RankRefusal.Stopped RankStop.ReadFault) }
     ensures write_fault { CountsFaults (result ≡ 4) (K.faults sink.old) (K.faults sink.new) }
@@ -151,7 +202,7 @@ fn refuse<K: Sink>(text: Text, refusal: RankRefusal, sink: &mut K) -> u8
 /// Answers a verdict by its line, in an empty text, and by its status.
 fn answer<K: Sink>(text: Text, verdict: Checked, sink: &mut K) -> u8
     requires empty { text.bytes ≡ [] }
-    requires room { text.room ≡ 64 }
+    requires room { text.room ≡ ROOM }
     ensures answered { Answers verdict (K.written sink.old) (K.written sink.new) result }
     ensures read_fault { (result ≡ 3) ↔ (verdict ≡ Checked.ReadFault) }
     ensures write_fault { CountsFaults (result ≡ 4) (K.faults sink.old) (K.faults sink.new) }

@@ -14,6 +14,9 @@ use json_forms::DefinitionFault;
 use ranking::{RankStop, Ranked};
 use std::alloc::Global;
 
+/// The room for a line that answers words or a refusal.
+pub(crate) const ROOM: u32 = 64;
+
 /// The header and the record of each alternative.
 pub(crate) fn ranking_text_of(alloc: Global, ranked: &Ranked) -> Result<Vec<u8>, NoMemory>
     ensures { IfOk result (λ text. text.items ≡ ranking_text ranked.now) }
@@ -80,7 +83,7 @@ fn finish(writer: Writer<Vec<u8>>) -> Result<Vec<u8>, NoMemory>
 /// Adds the line of a refusal to an empty text.
 pub(crate) fn add_refusal(text: &mut Text, refusal: RankRefusal)
     requires empty { text.old.bytes ≡ [] }
-    requires room { text.old.room ≡ 64 }
+    requires room { text.old.room ≡ ROOM }
     ensures { text.new.bytes ≡ refusal_line refusal }
 {
     match refusal {
@@ -93,7 +96,7 @@ pub(crate) fn add_refusal(text: &mut Text, refusal: RankRefusal)
 /// Adds the line of a first line that is no definition.
 fn add_fault(text: &mut Text, fault: DefinitionFault)
     requires empty { text.old.bytes ≡ [] }
-    requires room { text.old.room ≡ 64 }
+    requires room { text.old.room ≡ ROOM }
     ensures { text.new.bytes ≡ definition_line fault }
 {
     match fault {
@@ -107,9 +110,9 @@ fn add_fault(text: &mut Text, fault: DefinitionFault)
 }
 
 /// Adds the line of criteria that make no model.
-fn add_model_fault(text: &mut Text, fault: ModelFault)
+pub(crate) fn add_model_fault(text: &mut Text, fault: ModelFault)
     requires empty { text.old.bytes ≡ [] }
-    requires room { text.old.room ≡ 64 }
+    requires room { text.old.room ≡ ROOM }
     ensures { text.new.bytes ≡ model_line fault }
 {
     match fault {
@@ -136,7 +139,7 @@ fn add_model_fault(text: &mut Text, fault: ModelFault)
 /// Adds the line of a table that is refused.
 fn add_stop(text: &mut Text, stop: RankStop)
     requires empty { text.old.bytes ≡ [] }
-    requires room { text.old.room ≡ 64 }
+    requires room { text.old.room ≡ ROOM }
     ensures { text.new.bytes ≡ stop_line stop }
 {
     match stop {

@@ -1,6 +1,7 @@
 mod loading;
 mod ranks;
 mod results;
+mod samples;
 
 use crate::plain_command;
 use edges::{MemSink, MemSource, QuietSink, QuietSource};
@@ -298,7 +299,9 @@ fn expect_usage(rt: &impl Abort, alloc: Global, words: &[String]) -> Result<(), 
     let mut source = QuietSource::new(alloc, b"")?;
     let mut sink = QuietSink::new(alloc, 64)?;
     assert_eq!(rt; plain_command(alloc, words, &mut source, &mut sink), 2);
-    assert!(rt; sink.bytes() == b"usage: paprika check | migrate | rank\n".as_slice());
+    assert!(rt;
+        sink.bytes() == b"usage: paprika check | migrate | rank | sample SEED SHAPE\n".as_slice()
+    );
     Ok(())
 }
 
@@ -312,7 +315,7 @@ fn other_words_are_usage(rt: HostRuntime) -> Result<(), Fail> {
         expect_usage(&rt, rt.alloc(), &words[..count])?;
     }
     for word in [
-        "", "Check", "check ", "Migrate", "migrate ", "--help", "Rank",
+        "", "Check", "check ", "Migrate", "migrate ", "--help", "Rank", "sample", "run",
     ] {
         let words = [format!(in rt.alloc(); "{word}")?];
         expect_usage(&rt, rt.alloc(), &words)?;
