@@ -32,7 +32,7 @@ pub enum ScriptStop {
     Definition(DefinitionFault),
     /// The first line that fails; the definition line is line 1.
     Script { line: u32, part: ScriptPart },
-    /// The source failed; the lines before don't fail.
+    /// The source failed.
     ReadFault,
     /// Out of memory.
     NoMemory,
