@@ -134,19 +134,44 @@ const EQUAL: Side = Side::Equal;
 
 const COMPLETE: (Ask, Said) = (Ask::Next, Said::Complete);
 
-/// Surveys with each kind of reply: one criterion, two by two, always left, implied and closed questions, an equal answer,
-/// four open questions, answers taken back, and a class that an increment proves.
+/// A survey of this model replies to the talk as said.
+fn goes_so(
+    rt: &HostRuntime,
+    levels: &[u32],
+    degree: u32,
+    talk: &[(Ask, Said)],
+) -> Result<bool, Fail>
+    requires { length levels.now ≤ 24 }
+{
+    let mut solo = survey(rt.alloc(), levels, degree)?;
+    Ok(first_other(&mut solo, talk)?.is_none())
+}
+
+/// One criterion leaves no class to rank.
 #[test]
-fn worked_surveys(rt: HostRuntime) -> Result<(), Fail> {
-    let three: [u32; 3] = [2, 2, 2];
-    let one_criterion = [COMPLETE, (Ask::Values, Said::Values)];
-    let two_by_two = [
+fn one_criterion(rt: HostRuntime) -> Result<(), Fail> {
+    let talk = [COMPLETE, (Ask::Values, Said::Values)];
+    assert!(rt; goes_so(&rt, &[25], 1, &talk)?);
+    Ok(())
+}
+
+/// Two criteria of two levels have one class, and its question is open until it is answered.
+#[test]
+fn two_by_two(rt: HostRuntime) -> Result<(), Fail> {
+    let talk = [
         asks(1, 1),
         (Ask::Next, Said::Waiting(1)),
         given(1, LEFT),
         COMPLETE,
     ];
-    let always_left = [
+    assert!(rt; goes_so(&rt, &[2, 2], 2, &talk)?);
+    Ok(())
+}
+
+/// Who always answers left is asked four questions of three criteria, and has values after the last alone.
+#[test]
+fn always_left(rt: HostRuntime) -> Result<(), Fail> {
+    let talk = [
         (Ask::Values, Said::Incomplete(1)),
         asks(1, 1),
         given(1, LEFT),
@@ -158,7 +183,14 @@ fn worked_surveys(rt: HostRuntime) -> Result<(), Fail> {
         given(4, LEFT),
         COMPLETE,
     ];
-    let implied_answer = [
+    assert!(rt; goes_so(&rt, &[2, 2, 2], 3, &talk)?);
+    Ok(())
+}
+
+/// An open question may be implied by other answers, and is open again where one of them is taken back.
+#[test]
+fn implied_answer(rt: HostRuntime) -> Result<(), Fail> {
+    let talk = [
         asks(1, 1),
         asks(2, 2),
         asks(3, 3),
@@ -171,38 +203,58 @@ fn worked_surveys(rt: HostRuntime) -> Result<(), Fail> {
         withdrawn(2, 3),
         given(2, LEFT),
     ];
-    let equal_then_left = [
+    assert!(rt; goes_so(&rt, &[2, 2, 2], 3, &talk)?);
+    Ok(())
+}
+
+/// An equal answer and one on the left rank all classes of three criteria.
+#[test]
+fn equal_then_left(rt: HostRuntime) -> Result<(), Fail> {
+    let talk = [
         asks(1, 1),
         given(1, EQUAL),
         asks(2, 2),
         given(2, LEFT),
         COMPLETE,
     ];
-    let four_open_full = [
+    assert!(rt; goes_so(&rt, &[2, 2, 2], 3, &talk)?);
+    Ok(())
+}
+
+/// No fifth question is asked while four are open.
+#[test]
+fn four_open_questions(rt: HostRuntime) -> Result<(), Fail> {
+    let talk = [
         asks(1, 1),
         asks(2, 2),
         asks(3, 3),
         asks(4, 4),
         (Ask::Next, Said::Full),
     ];
-    let withdraw_nothing = [(Ask::Withdraw, Said::Nothing)];
-    let withdraw_then_answer = [asks(1, 1), given(1, LEFT), withdrawn(1, 1), given(1, RIGHT)];
-    let implied_by_increment = [asks(1, 1), given(1, LEFT), asks(2, 3)];
-    let rows: [(&str, &[u32], u32, &[(Ask, Said)]); 9] = [
-        ("one criterion", &[25], 1, &one_criterion),
-        ("two by two", &[2, 2], 2, &two_by_two),
-        ("always left", &three, 3, &always_left),
-        ("implied answer", &three, 3, &implied_answer),
-        ("equal then left", &three, 3, &equal_then_left),
-        ("four open, full", &three, 3, &four_open_full),
-        ("withdraw nothing", &three, 3, &withdraw_nothing),
-        ("withdraw then answer", &three, 3, &withdraw_then_answer),
-        ("implied by increment", &[3, 2], 2, &implied_by_increment),
-    ];
-    for (name, levels, degree, talk) in rows {
-        let mut solo = survey(rt.alloc(), levels, degree)?;
-        assert!(rt; first_other(&mut solo, talk)?.is_none(), "{name}");
-    }
+    assert!(rt; goes_so(&rt, &[2, 2, 2], 3, &talk)?);
+    Ok(())
+}
+
+/// There is nothing to take back before the first answer.
+#[test]
+fn nothing_to_withdraw(rt: HostRuntime) -> Result<(), Fail> {
+    assert!(rt; goes_so(&rt, &[2, 2, 2], 3, &[(Ask::Withdraw, Said::Nothing)])?);
+    Ok(())
+}
+
+/// A question whose answer was taken back may be answered otherwise.
+#[test]
+fn withdraw_then_answer(rt: HostRuntime) -> Result<(), Fail> {
+    let talk = [asks(1, 1), given(1, LEFT), withdrawn(1, 1), given(1, RIGHT)];
+    assert!(rt; goes_so(&rt, &[2, 2, 2], 3, &talk)?);
+    Ok(())
+}
+
+/// A class that follows from an answer and an increment is never asked.
+#[test]
+fn implied_by_increment(rt: HostRuntime) -> Result<(), Fail> {
+    let talk = [asks(1, 1), given(1, LEFT), asks(2, 3)];
+    assert!(rt; goes_so(&rt, &[3, 2], 2, &talk)?);
     Ok(())
 }
 
