@@ -8,7 +8,7 @@ next_state state = (1103515245 * state + 12345) % 2 ^ 31
 
 -- the number that a state shows
 abbrev pub drawn : ℕ → ℕ
-drawn state = state / 65536 % 1000
+drawn state = state / 2 ^ 16 % 1000
 
 -- the state after a number of draws
 abbrev pub state_after : ℕ → ℕ → ℕ
