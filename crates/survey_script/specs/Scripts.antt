@@ -49,15 +49,15 @@ abbrev pub no_sessions : SessionsView
 no_sessions = sessions_view [] None
 
 -- the part of a fault of a hello
-abbrev pub part_of : HelloFault → ScriptPart
-part_of hello.Name = Name
-part_of hello.Code = Code
-part_of hello.Desk = Desk
+abbrev pub hello_part : HelloFault → ScriptPart
+hello_part hello.Name = Name
+hello_part hello.Code = Code
+hello_part hello.Desk = Desk
 
 -- a session begins where the hello passes its tests
 abbrev pub begun_by : List ScriptSessionView → Result Admitted HelloFault → Result SessionsView ScriptPart
 begun_by ended (Ok admitted) = Ok (sessions_view ended (Some (begun_session admitted.respondent admitted.desk)))
-begun_by ended (Err fault) = Err (part_of fault)
+begun_by ended (Err fault) = Err (hello_part fault)
 
 -- where no session is running a hello begins one, and all else fails
 abbrev pub after_hello : DefinitionView → List ScriptSessionView → Option Message → Result SessionsView ScriptPart

@@ -1,7 +1,7 @@
 //! The sessions that the lines of a script have come to.
 ghost use Rattle.std.specs.Prelude.{◌≡◌, ◌≢◌, ◌+◌, ◌≤◌, [], ◌∷◌, ◌++◌, length, IfErr, OnOk, MatchResult};
 ghost use Rattle.survey_script.specs.ScriptViews.{IsWholeScript, is_bye, is_hello, script_view};
-ghost use Rattle.survey_script.specs.Scripts.{IsStopOf, after_hello, after_line, after_message, after_request, ended_at, no_sessions, part_of, sessions_after, sessions_view};
+ghost use Rattle.survey_script.specs.Scripts.{IsStopOf, after_hello, after_line, after_message, after_request, ended_at, no_sessions, hello_part, sessions_after, sessions_view};
 ghost use Rattle.survey_script.specs.Steps.{AreWithin, IsLineStop, IsStopAt};
 ghost use Rattle.survey_script.specs.declared.sessions_so_far.LineStop.TheVariants.{NoMemory as NoMemoryStop};
 
@@ -221,7 +221,7 @@ impl SessionsSoFar {
 
 /// The part of a fault of a hello.
 fn part(fault: HelloFault) -> ScriptPart
-    ensures { result ≡ part_of fault }
+    ensures { result ≡ hello_part fault }
 {
     match fault {
         HelloFault::Name => ScriptPart::Name,

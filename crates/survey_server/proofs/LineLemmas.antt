@@ -5,7 +5,7 @@ use Rattle.std.proofs.lemmas.List.{append-nil, drop_all}
 use Rattle.edges.specs.Line.{HasNoLineEnd, first_line, line_end}
 use Rattle.edges.specs.Lines.{GivesEnd, GivesLine, GivesPiece, GivesTooLong, LinesView, ahead}
 use Rattle.edges.proofs.LineLaws.{first_line-line, first_line-long, first_line-piece}
-use Rattle.survey_server.specs.RankInput.{LineIs, after_line}
+use Rattle.survey_server.specs.RankInput.{LineIs, after_first_line}
 
 -- what follows a line and its line end
 drop_line : (line rest : List ℕ) → drop (length line + 1) (line ++ line_end ∷ rest) ≡ rest
@@ -13,7 +13,7 @@ drop_line [] rest = refl
 drop_line (byte ∷ line) rest = let next : length (byte ∷ line) + 1 ≡ suc (length line + 1) = omega arith in rw next (drop_line line rest)
 
 -- a text that begins with a line
-begins : (text line rest : List ℕ) → text ≡ line ++ line_end ∷ rest → HasNoLineEnd line → (line ≡ first_line text) × (after_line text ≡ rest)
+begins : (text line rest : List ℕ) → text ≡ line ++ line_end ∷ rest → HasNoLineEnd line → (line ≡ first_line text) × (after_first_line text ≡ rest)
 begins text line rest is unbroken =
     let first : first_line text ≡ line = ap first_line is ∙ first_line-line line rest unbroken in
     let later : drop (length (first_line text) + 1) text ≡ drop (length line + 1) (line ++ line_end ∷ rest) =
@@ -21,7 +21,7 @@ begins text line rest is unbroken =
     (sym first, later ∙ drop_line line rest)
 
 -- a text that is one line
-only : (text line : List ℕ) → text ≡ line → HasNoLineEnd line → (line ≡ first_line text) × (after_line text ≡ [])
+only : (text line : List ℕ) → text ≡ line → HasNoLineEnd line → (line ≡ first_line text) × (after_first_line text ≡ [])
 only text line is unbroken =
     let first : first_line text ≡ line = ap first_line is ∙ first_line-piece line unbroken in
     let short : length text ≤ length (first_line text) + 1 = omega (arith, ap length is, ap length first) in
@@ -55,7 +55,7 @@ end_given new (Some text) (Some rest) gives =
     let none : rest ≡ [] = gives.ended in
     let empty : text ≡ [] = here ∙ none in
     let first : new.line ≡ first_line text = gives.no_line ∙ sym (ap first_line empty) in
-    let later : rest ≡ after_line text = none ∙ sym (ap after_line empty) in
+    let later : rest ≡ after_first_line text = none ∙ sym (ap after_first_line empty) in
     (first, omega (arith, ap length gives.no_line), ap (λ (xs : List ℕ). Some xs) later)
 
 pub too_long_given : (new : LinesView) (before left : Option (List ℕ)) → GivesTooLong new before (ahead new left) → IfSome before (λ text. LineIs false text new.line new.longest (ahead new left))

@@ -14,7 +14,7 @@ use Rattle.ranking.specs.Tables.{RecordsSay, TableSays, table_records}
 use Rattle.ranking.specs.Rankings.{IsTableRanking}
 use Rattle.survey_server.specs.declared.rank_input.RankRefusal.{RankRefusal}
 use Rattle.survey_server.specs.declared.rank_input.RankRefusal.TheVariants.{Definition, Values, Stopped}
-use Rattle.survey_server.specs.RankInput.{IsInputOutcome, IsTableOutcome, IsToldInput, IsValuesOutcome, UnlessStopped, after_line, definition_in, named_criteria, values_in}
+use Rattle.survey_server.specs.RankInput.{IsInputOutcome, IsTableOutcome, IsToldInput, IsValuesOutcome, UnlessStopped, after_first_line, leading_definition, named_criteria, values_in}
 use Rattle.survey_server.specs.Command.{AnswersRanking, IsRankable, RanksTable}
 
 -- records say alternatives or refuse, not both
@@ -57,14 +57,14 @@ values_once : (definition : DefinitionView) (text : List ℕ) (found : Option (L
     → IsValuesOutcome definition text (Ok ranked) → IsValuesOutcome definition text (Err refusal) → ⊥
 values_once definition text None is ranked refusal no_fault memory one other = let refused : Ok ranked ≡ Err Values = rw is at one in cc
 values_once definition text (Some values) is ranked refusal no_fault memory one other =
-    outcome_once (named_criteria definition) values (after_line text) ranked refusal no_fault memory (rw is at one) (rw is at other)
+    outcome_once (named_criteria definition) values (after_first_line text) ranked refusal no_fault memory (rw is at one) (rw is at other)
 
 -- a text that has a ranking isn't refused
-input_once : (text : List ℕ) (found : Result DefinitionView DefinitionFault) → definition_in text ≡ found
+input_once : (text : List ℕ) (found : Result DefinitionView DefinitionFault) → leading_definition text ≡ found
     → (ranked : List NamedWorthView) (refusal : RankRefusal) → refusal ≢ Stopped stop.ReadFault → refusal ≢ Stopped stop.NoMemory
     → IsInputOutcome text (Ok ranked) → IsInputOutcome text (Err refusal) → ⊥
 input_once text (Ok definition) is ranked refusal no_fault memory one other =
-    values_once definition (after_line text) (values_in (level_counts definition.criteria) (after_line text)) refl ranked refusal no_fault memory (rw is at one) (rw is at other)
+    values_once definition (after_first_line text) (values_in (level_counts definition.criteria) (after_first_line text)) refl ranked refusal no_fault memory (rw is at one) (rw is at other)
 input_once text (Err fault) is ranked refusal no_fault memory one other = let refused : Ok ranked ≡ Err (Definition fault) = rw is at one in cc
 
 -- a text that has a ranking ends with 0 or 5 where no fault came
@@ -76,17 +76,17 @@ done_by text ranked (Ok other) before now status one is answered no_read no_writ
 done_by text ranked (Err (Stopped stop.ReadFault)) before now status one is answered no_read no_write = absurd (no_read answered.0)
 done_by text ranked (Err (Stopped stop.NoMemory)) before now status one is answered no_read no_write = inr answered.0
 done_by text ranked (Err (Stopped stop.TableLong)) before now status one is answered no_read no_write =
-    absurd (input_once text (definition_in text) refl ranked (Stopped stop.TableLong) (λ e. cc) (λ e. cc) one is)
+    absurd (input_once text (leading_definition text) refl ranked (Stopped stop.TableLong) (λ e. cc) (λ e. cc) one is)
 done_by text ranked (Err (Stopped stop.Header)) before now status one is answered no_read no_write =
-    absurd (input_once text (definition_in text) refl ranked (Stopped stop.Header) (λ e. cc) (λ e. cc) one is)
+    absurd (input_once text (leading_definition text) refl ranked (Stopped stop.Header) (λ e. cc) (λ e. cc) one is)
 done_by text ranked (Err (Stopped (stop.Row place))) before now status one is answered no_read no_write =
-    absurd (input_once text (definition_in text) refl ranked (Stopped (stop.Row place)) (λ e. cc) (λ e. cc) one is)
+    absurd (input_once text (leading_definition text) refl ranked (Stopped (stop.Row place)) (λ e. cc) (λ e. cc) one is)
 done_by text ranked (Err (Stopped (stop.Level place column))) before now status one is answered no_read no_write =
-    absurd (input_once text (definition_in text) refl ranked (Stopped (stop.Level place column)) (λ e. cc) (λ e. cc) one is)
+    absurd (input_once text (leading_definition text) refl ranked (Stopped (stop.Level place column)) (λ e. cc) (λ e. cc) one is)
 done_by text ranked (Err (Definition fault)) before now status one is answered no_read no_write =
-    absurd (input_once text (definition_in text) refl ranked (Definition fault) (λ e. cc) (λ e. cc) one is)
+    absurd (input_once text (leading_definition text) refl ranked (Definition fault) (λ e. cc) (λ e. cc) one is)
 done_by text ranked (Err Values) before now status one is answered no_read no_write =
-    absurd (input_once text (definition_in text) refl ranked Values (λ e. cc) (λ e. cc) one is)
+    absurd (input_once text (leading_definition text) refl ranked Values (λ e. cc) (λ e. cc) one is)
 
 pub done_where_rankable : (told before now : Option (List ℕ)) (read_before read_now written_before written_now status : ℕ) → RanksTable told before now status
     → CountsFaults (status ≡ 3) read_before read_now → CountsFaults (status ≡ 4) written_before written_now

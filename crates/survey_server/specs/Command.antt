@@ -26,7 +26,7 @@ use Rattle.sample_survey.specs.Samples.{IsSampleOf}
 use Rattle.survey_server.specs.declared.rank_input.RankRefusal.{RankRefusal}
 use Rattle.survey_server.specs.declared.rank_input.RankRefusal.TheVariants.{Definition, Values, Stopped}
 use Rattle.survey_server.specs.RankInput.{IsInputOutcome, IsToldInput}
-use Rattle.survey_server.specs.RankTexts.{model_line, ranking_text, refusal_line}
+use Rattle.survey_server.specs.RankTexts.{model_fault_line, ranked_text, refusal_line}
 use Rattle.survey_server.specs.SampleTexts.{sample_line}
 
 -- the command that the words name
@@ -145,7 +145,7 @@ AnswersRefusal Values before now status = Writes (refusal_line Values) 1 before 
 
 -- how a ranking is answered: by its records with status 0, or as its refusal is
 abbrev pub AnswersRanking : Result (List NamedWorthView) RankRefusal → Option (List ℕ) → Option (List ℕ) → ℕ → Type 0
-AnswersRanking (Ok ranked) before now status = Writes (ranking_text ranked) 0 before now status
+AnswersRanking (Ok ranked) before now status = Writes (ranked_text ranked) 0 before now status
 AnswersRanking (Err refusal) before now status = AnswersRefusal refusal before now status
 
 -- the table of a source was ranked or refused, and that answered
@@ -166,7 +166,7 @@ SamplesModel seed shape criteria before now status =
 
 -- the line of a fault was written with status 1, or there was no memory for it
 abbrev pub RefusesModel : ModelFault → Option (List ℕ) → Option (List ℕ) → ℕ → Type 0
-RefusesModel fault before now status = Writes (model_line fault) 1 before now status ⊎ IsSilent 5 before now status
+RefusesModel fault before now status = Writes (model_fault_line fault) 1 before now status ⊎ IsSilent 5 before now status
 
 -- a sample survey of the shape's model was run and answered; or, where the shape makes none, its first fault was
 abbrev pub SamplesShape : ℕ → Shape → Option (List ℕ) → Option (List ℕ) → ℕ → Type 0

@@ -26,12 +26,12 @@ named_criteria definition = record {
 }
 
 -- what follows the first line of a text and its line end
-abbrev pub after_line : List ℕ → List ℕ
-after_line text = drop (length (first_line text) + 1) text
+abbrev pub after_first_line : List ℕ → List ℕ
+after_first_line text = drop (length (first_line text) + 1) text
 
 -- the definition of the first line
-abbrev pub definition_in : List ℕ → Result DefinitionView DefinitionFault
-definition_in text = if nat_le (length (first_line text)) MAX_DEFINITION then definition_of (first_line text) else Err Long
+abbrev pub leading_definition : List ℕ → Result DefinitionView DefinitionFault
+leading_definition text = if nat_le (length (first_line text)) MAX_DEFINITION then definition_of (first_line text) else Err Long
 
 -- the vector of the first line
 abbrev pub values_in : List ℕ → List ℕ → Option (List ℤ)
@@ -48,13 +48,13 @@ IsTableOutcome criteria values table (Err Values) = ⊥
 abbrev pub IsValuesOutcome : DefinitionView → List ℕ → Result (List NamedWorthView) RankRefusal → Type 0
 IsValuesOutcome definition text outcome =
     MatchOption (values_in (level_counts definition.criteria) text) (outcome ≡ Err Values)
-    (λ values. IsTableOutcome (named_criteria definition) values (after_line text) outcome)
+    (λ values. IsTableOutcome (named_criteria definition) values (after_first_line text) outcome)
 
 -- the same of a definition line, a values line and a table
 abbrev pub IsInputOutcome : List ℕ → Result (List NamedWorthView) RankRefusal → Type 0
 IsInputOutcome text outcome =
-    MatchResult (definition_in text)
-    (λ definition. IsValuesOutcome definition (after_line text) outcome)
+    MatchResult (leading_definition text)
+    (λ definition. IsValuesOutcome definition (after_first_line text) outcome)
     (λ fault. outcome ≡ Err (Definition fault))
 
 -- neither a failure of the source nor want of memory says anything of the text
@@ -80,15 +80,15 @@ IsToldInput told outcome = IfSome told (λ text. UnlessStopped outcome (IsInputO
 -- a line within the longest length is the first of the text, and the rest is left; or the first line is longer
 abbrev pub LineIs : Bool → List ℕ → List ℕ → ℕ → Option (List ℕ) → Type 0
 LineIs within text line longest left =
-    MatchBool within ((line ≡ first_line text) × (length line ≤ longest) × (left ≡ Some (after_line text))) (longest < length (first_line text))
+    MatchBool within ((line ≡ first_line text) × (length line ≤ longest) × (left ≡ Some (after_first_line text))) (longest < length (first_line text))
 
 -- the definition is that of the first line, and the rest is left
 abbrev pub ReadsDefinition : List ℕ → DefinitionView → Option (List ℕ) → Type 0
-ReadsDefinition text definition left = (definition_in text ≡ Ok definition) × (left ≡ Some (after_line text))
+ReadsDefinition text definition left = (leading_definition text ≡ Ok definition) × (left ≡ Some (after_first_line text))
 
 -- the refusal is that of the first line, or says nothing of it
 abbrev pub IsDefinitionRefusal : List ℕ → RankRefusal → Type 0
-IsDefinitionRefusal text (Definition fault) = definition_in text ≡ Err fault
+IsDefinitionRefusal text (Definition fault) = leading_definition text ≡ Err fault
 IsDefinitionRefusal text Values = ⊥
 IsDefinitionRefusal text (Stopped ReadFault) = Unit {0}
 IsDefinitionRefusal text (Stopped NoMemory) = Unit {0}

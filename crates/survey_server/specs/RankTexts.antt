@@ -16,18 +16,18 @@ use Rattle.survey_server.specs.declared.rank_input.RankRefusal.{RankRefusal}
 use Rattle.survey_server.specs.declared.rank_input.RankRefusal.TheVariants.{Definition, Values, Stopped}
 
 -- the line of criteria that make no model
-abbrev pub model_line : ModelFault → List ℕ
-model_line NoCriteria = codes "definition criteria\n"
-model_line (Levels criterion) = codes "definition levels " ++ decimal criterion ++ codes "\n"
-model_line (Increments count) = codes "definition increments " ++ decimal count ++ codes "\n"
-model_line Degree = codes "definition degree\n"
-model_line (Classes count) = codes "definition classes " ++ decimal count ++ codes "\n"
+abbrev pub model_fault_line : ModelFault → List ℕ
+model_fault_line NoCriteria = codes "definition criteria\n"
+model_fault_line (Levels criterion) = codes "definition levels " ++ decimal criterion ++ codes "\n"
+model_fault_line (Increments count) = codes "definition increments " ++ decimal count ++ codes "\n"
+model_fault_line Degree = codes "definition degree\n"
+model_fault_line (Classes count) = codes "definition classes " ++ decimal count ++ codes "\n"
 
 -- the line of a first line that is no definition
 abbrev pub definition_line : DefinitionFault → List ℕ
 definition_line Long = codes "definition long\n"
 definition_line Form = codes "definition form\n"
-definition_line (Model fault) = model_line fault
+definition_line (Model fault) = model_fault_line fault
 definition_line Respondents = codes "definition respondents\n"
 definition_line Name = codes "definition name\n"
 definition_line Twice = codes "definition twice\n"
@@ -57,8 +57,8 @@ ranked_rows ranked [] = []
 ranked_rows ranked (one ∷ later) = ranked_row ranked one ++ ranked_rows ranked later
 
 -- the header of a ranking, and then the record of each alternative
-abbrev pub ranking_text : List NamedWorthView → List ℕ
-ranking_text ranked = row_text default_writer (codes "rank" ∷ codes "name" ∷ codes "value" ∷ []) ++ ranked_rows ranked ranked
+abbrev pub ranked_text : List NamedWorthView → List ℕ
+ranked_text ranked = row_text default_writer (codes "rank" ∷ codes "name" ∷ codes "value" ∷ []) ++ ranked_rows ranked ranked
 
 -- what a writer of records into memory has written
 abbrev pub written : Writer (Vec ℕ Global) → List ℕ

@@ -3,7 +3,7 @@ ghost use Rattle.std.specs.Prelude.{◌≡◌, ◌≤◌, [], ◌++◌, Some, le
 ghost use Rattle.row_laws.specs.Items.{item_at};
 ghost use Rattle.csv.specs.Writing.{default_writer, row_text};
 ghost use Rattle.ranking.specs.NamedWorths.{NamedWorthView};
-ghost use Rattle.survey_server.specs.RankTexts.{IsReady, definition_line, model_line, ranked_row, ranking_text, refusal_line, stop_line, written};
+ghost use Rattle.survey_server.specs.RankTexts.{IsReady, definition_line, model_fault_line, ranked_row, ranked_text, refusal_line, stop_line, written};
 
 use crate::rank_input::RankRefusal;
 use criteria_model::ModelFault;
@@ -19,7 +19,7 @@ pub(crate) const ROOM: u32 = 64;
 
 /// The header and the record of each alternative.
 pub(crate) fn ranking_text_of(alloc: Global, ranked: &Ranked) -> Result<Vec<u8>, NoMemory>
-    ensures { IfOk result (λ text. text.items ≡ ranking_text ranked.now) }
+    ensures { IfOk result (λ text. text.items ≡ ranked_text ranked.now) }
 {
     let mut writer = new_writer(alloc);
     write_row(
@@ -113,7 +113,7 @@ fn add_fault(text: &mut Text, fault: DefinitionFault)
 pub(crate) fn add_model_fault(text: &mut Text, fault: ModelFault)
     requires empty { text.old.bytes ≡ [] }
     requires room { text.old.room ≡ ROOM }
-    ensures { text.new.bytes ≡ model_line fault }
+    ensures { text.new.bytes ≡ model_fault_line fault }
 {
     match fault {
         ModelFault::NoCriteria => text.add(b"definition criteria\n"),
