@@ -131,9 +131,10 @@ fn ends_of_next(listener: &TcpListener) -> Result<(TcpEnd, TcpEnd), Failed> {
     Err(Failed)
 }
 
-/// Both ends of a connection. Each reply is sent at once, and none waits for more to be sent with it.
+/// Both ends of a connection. Each reply is sent at once, and none waits for more to be sent with it; where the system refuses
+/// that, the connection works all the same.
 fn both_ends(stream: TcpStream) -> io::Result<(TcpEnd, TcpEnd)> {
-    stream.set_nodelay(true)?;
+    let _at_once = stream.set_nodelay(true);
     let out = stream.try_clone()?;
     Ok((TcpEnd::new(stream), TcpEnd::new(out)))
 }

@@ -2,6 +2,7 @@
 ghost use Rattle.std.specs.Prelude.{◌≡◌, ◌≢◌, ◌≤◌, [], ◌∷◌, ◌++◌, Ok, Err, length, map, IfOk, OnOk, MatchResult};
 ghost use Rattle.csv.specs.Records.{fields_of};
 ghost use Rattle.edges.specs.Faults.{CountsFaults};
+ghost use Rattle.edges.specs.Told.{IsAtEnd};
 ghost use Rattle.criteria_model.specs.Worth.{IsValueVector};
 ghost use Rattle.ranking.specs.Tables.{IsRefusal, alternatives_in};
 ghost use Rattle.ranking.specs.Rankings.{IsTableRanking, IsToldRanking};
@@ -27,6 +28,7 @@ pub fn rank<S: Source>(
 ) -> Result<Ranked, RankStop>
     requires { IsValueVector (criteria names.now).model.levels vector.now }
     ensures ranked { IsToldRanking (criteria names.now) vector.now (S.left source.old) result }
+    ensures ended { OnOk result (IsAtEnd (S.left source.new)) }
     ensures faults { CountsFaults (result ≡ Err RankStop.ReadFault) (S.faults source.old) (S.faults source.new) }
     ensures loans { S.loans source.new ≡ S.loans source.old }
 {

@@ -1,6 +1,7 @@
 //! The table that a source holds.
-ghost use Rattle.std.specs.Prelude.{◌≡◌, ◌+◌, ◌<◌, ◌≤◌, ◌^◌, Err, length, IfErr, IfOk, IfSome};
+ghost use Rattle.std.specs.Prelude.{◌≡◌, ◌+◌, ◌<◌, ◌≤◌, ◌^◌, Err, length, IfErr, IfOk, IfSome, OnOk};
 ghost use Rattle.edges.specs.Faults.{CountsFaults};
+ghost use Rattle.edges.specs.Told.{IsAtEnd};
 ghost use Rattle.ranking.specs.Tables.{IsTableStop};
 
 use crate::stops::RankStop;
@@ -16,6 +17,7 @@ pub(crate) fn read_table<S: Source>(
     requires { most < 2 ^ 32 }
     ensures whole { IfOk result (λ table. IfSome (S.left source.old) (λ text. text ≡ table.items)) }
     ensures fits { IfOk result (λ table. length table.items ≤ most) }
+    ensures ended { OnOk result (IsAtEnd (S.left source.new)) }
     ensures stops { IfErr result (λ stop. IfSome (S.left source.old) (λ text. IsTableStop most text stop)) }
     ensures faults { CountsFaults (result ≡ Err RankStop.ReadFault) (S.faults source.old) (S.faults source.new) }
     ensures loans { S.loans source.new ≡ S.loans source.old }

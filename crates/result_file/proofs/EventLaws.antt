@@ -26,7 +26,7 @@ use Rattle.result_file.specs.Contents.{of_events}
 use Rattle.result_file.specs.Entries.{HasEntryForm, ReadsEntry}
 use Rattle.result_file.specs.Events.{pair_at_place, as_entry, NamesClass, Tells}
 use Rattle.result_file.specs.EventLines.{IsEventLine}
-use Rattle.result_file.proofs.EventOnce.{is_class_there}
+use Rattle.result_file.proofs.EventOnce.{names_a_class}
 use Rattle.result_file.specs.Kept.{KeptSurvey, AddsEvent}
 use Rattle.result_file.specs.Parts.{part_of}
 use Rattle.result_file.specs.RightEvents.{NamesNoClass, EntryFailsAs}
@@ -143,13 +143,6 @@ reads_event listed line entry event reads tells = record {
   spelled = reads.sound.0 ∙ ap entry_line tells.told;
 }
 
-names_one : (listed : Listed) (event : Event) → IsListed listed → NamesClass listed event → ¬ NamesNoClass listed.criteria (as_entry listed.classes event)
-names_one listed (events.Eliminate worker place verdict combination) list named none = none (is_class_there listed place list named)
-names_one listed (events.Issue desk place plus minus) list named none = none (is_class_there listed place list named)
-names_one listed (events.Commit desk question side plus minus point) list named none = none
-names_one listed (events.Close desk question) list named none = none
-names_one listed (events.Withdraw desk answer) list named none = none
-
 pub read_as : (listed : Listed) (line : List ℕ) (entry : Entry) (read : Option Event) → IsListed listed → ReadsEntry Two listed.criteria line (Some entry)
     → MatchOption read (NamesNoClass listed.criteria entry) (λ event. Tells listed entry event)
     → MatchOption read ((event : Event) → ¬ IsEventLine listed line event) (λ event. IsEventLine listed line event)
@@ -157,5 +150,5 @@ read_as listed line entry None list reads none =
     λ event h.
     let same : Some entry ≡ Some (as_entry listed.classes event) = reads.complete (as_entry listed.classes event) h.spelled h.form in
     let is : entry ≡ as_entry listed.classes event = cc in
-    names_one listed event list h.class (subst (λ (e : Entry). NamesNoClass listed.criteria e) is none)
+    names_a_class listed event list h.class (subst (λ (e : Entry). NamesNoClass listed.criteria e) is none)
 read_as listed line entry (Some event) list reads tells = reads_event listed line entry event reads tells

@@ -12,6 +12,7 @@ use Rattle.survey_core.proofs.ListSteps.{slice_get_inside}
 use Rattle.row_laws.proofs.ItemLemmas.{item_of}
 use Rattle.result_file.specs.declared.eliminations.Elimination.{Elimination}
 use Rattle.result_file.specs.Events.{pair_at_place, as_entry, NamesClass}
+use Rattle.result_file.specs.RightEvents.{NamesNoClass}
 
 -- ---- classes by their places
 
@@ -33,6 +34,14 @@ place_once : (listed : Listed) (one other : ℕ) → IsListed listed → IsPlace
 place_once listed one other list h k same =
     stands_once listed.classes one other (pair_at_place listed.classes other) list.list.ordered
     (stands_there listed one h ∙ ap Some same) (stands_there listed other k)
+
+-- an entry that stands for an event of a class names one
+pub names_a_class : (listed : Listed) (event : Event) → IsListed listed → NamesClass listed event → ¬ NamesNoClass listed.criteria (as_entry listed.classes event)
+names_a_class listed (events.Eliminate worker place verdict combination) list named none = none (is_class_there listed place list named)
+names_a_class listed (events.Issue desk place plus minus) list named none = none (is_class_there listed place list named)
+names_a_class listed (events.Commit desk question side plus minus point) list named none = none
+names_a_class listed (events.Close desk question) list named none = none
+names_a_class listed (events.Withdraw desk answer) list named none = none
 
 -- ---- events
 

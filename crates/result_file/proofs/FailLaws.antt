@@ -35,7 +35,7 @@ use Rattle.result_file.specs.Texts.{heading, end_line, model_line}
 use Rattle.result_file.proofs.LengthLaws.{model_form, model_line_fits, claim_line_fits, entry_line_fits}
 use Rattle.result_file.proofs.SpelledLaws.{heading_fits, model_line_once, claim_line_once, claim_line-is_not_end, entry_line_once}
 use Rattle.result_file.proofs.EntryLaws.{entry_line-is_not_end}
-use Rattle.result_file.proofs.EventOnce.{is_class_there, names_class, event_once}
+use Rattle.result_file.proofs.EventOnce.{names_a_class, names_class, event_once}
 use Rattle.result_file.proofs.StepLaws.{Begins, AddsRightEvent, AddsRight, Steps}
 
 -- ---- what a part that fails says
@@ -128,18 +128,10 @@ right_claim_holds criteria before claim part right h =
 
 -- ---- an entry
 
--- an entry that stands for an event of a class names one
-tells_a_class : (listed : Listed) (event : Event) → IsListed listed → NamesClass listed event → ¬ NamesNoClass listed.criteria (as_entry listed.classes event)
-tells_a_class listed (events.Eliminate worker place verdict combination) list named none = none (is_class_there listed place list named)
-tells_a_class listed (events.Issue desk place plus minus) list named none = none (is_class_there listed place list named)
-tells_a_class listed (events.Commit desk question side plus minus point) list named none = none
-tells_a_class listed (events.Close desk question) list named none = none
-tells_a_class listed (events.Withdraw desk answer) list named none = none
-
 breaks_names : (survey : Recorded) (entry : Entry) (part : Part) → IsListed survey.listed → BreaksRule survey entry part
     → ¬ NamesNoClass survey.listed.criteria entry
 breaks_names survey entry part list breaks none =
-    tells_a_class survey.listed breaks.event list breaks.tells.class
+    names_a_class survey.listed breaks.event list breaks.tells.class
     (subst (λ (e : Entry). NamesNoClass survey.listed.criteria e) breaks.tells.told none)
 
 tells_once : (listed : Listed) (entry : Entry) (one other : Event) → IsListed listed → Tells listed entry one → Tells listed entry other → one ≡ other
@@ -184,7 +176,7 @@ right_event_holds format survey line next part adds h =
     elim (fails_entry survey (as_entry survey.listed.classes adds.event) part h) [
       | inl limit ↦ omega (arith, limit.1, adds.room)
       | inr past ↦ elim past [
-        | inl class ↦ tells_a_class survey.listed adds.event adds.listed named class.2
+        | inl class ↦ names_a_class survey.listed adds.event adds.listed named class.2
         | inr breaks ↦
             (let told : Tells survey.listed (as_entry survey.listed.classes adds.event) adds.event = record { class = named; told = refl } in
             let same : breaks.1.event ≡ adds.event =
