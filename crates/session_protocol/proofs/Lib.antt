@@ -2,3 +2,4 @@ pub mod ExchangeLemmas
 pub mod ReplyCases
 pub mod SessionLemmas
 pub mod OneSession
+pub mod WritingLemmas

@@ -93,7 +93,7 @@ looked_writable levels (Some message.Withdraw) at = tt
 looked_writable levels (Some message.Result) at = tt
 looked_writable levels (Some message.Bye) at = tt
 
-carried_writable : (listed : Listed) (now : Interview) (said : Option Message) (came : Outcome) → Carries listed now came
+pub carried_writable : (listed : Listed) (now : Interview) (said : Option Message) (came : Outcome) → Carries listed now came
     → IsWritable listed.criteria.levels (reply_by said came)
 carried_writable listed now said (outcome.next came) carried = tt
 carried_writable listed now said (outcome.answer came) carried = tt

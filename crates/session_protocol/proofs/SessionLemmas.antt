@@ -23,10 +23,11 @@ use Rattle.json_forms.specs.declared.replies.Reply.TheVariants as reply
 use Rattle.result_file.specs.Files.{file_text, result_of}
 use Rattle.result_file.specs.declared.limits.TheConstants.{MAX_LINE}
 use Rattle.result_file.proofs.OutLemmas.{unlines-append}
+use Rattle.session_protocol.specs.declared.sessions.CountedEnd.{CountedEnd}
 use Rattle.session_protocol.specs.declared.sessions.SessionEnd.{SessionEnd}
 use Rattle.session_protocol.specs.declared.sessions.SessionEnd.TheVariants.{Bye, EndOfInput, LineTooLong, Messages, ReadFault, WriteFault, NoMemory}
 use Rattle.session_protocol.specs.Exchanges.{IsAnswered, reply_by}
-use Rattle.session_protocol.specs.Sessions.{LineExchange, exchange_of, reply_of, text_of, AnswersLines, exchange_lines, texts_of, IsLine, IsOverlong, HasNoBye, EndsWithBye, EndsAfter, EndTakes, refusals, AppendsCut, IsWritten, IsSession, SessionGoesOn, SessionView, session_view}
+use Rattle.session_protocol.specs.Sessions.{LineExchange, exchange_of, reply_of, text_of, AnswersLines, exchange_lines, texts_of, IsLine, IsOverlong, HasNoBye, EndsWithBye, EndsAfter, EndTakes, refusals, AppendsCut, IsWritten, IsSession, IsCountedSession, SessionGoesOn, SessionView, session_view}
 use Rattle.session_protocol.proofs.ReplyCases.{result_within, bye_said, bye_replied, bye_or_not}
 
 pub if_err : {A E : Type 0} (result : Result A E) (P Q : E → Type 0) → ((e : E) → P e → Q e) → IfErr result P → IfErr result Q
@@ -65,7 +66,7 @@ answers_both listed desk before middle after xs ys one other =
     (conversations_join_lem listed desk before middle after (map exchange_of xs) (map exchange_of ys) one other)
 
 -- ---- texts in a longer journal
-text_stays : (listed : Listed) (journal longer : List Event) (answer : Reply) → IsPrefix journal longer
+pub text_stays : (listed : Listed) (journal longer : List Event) (answer : Reply) → IsPrefix journal longer
     → ((count : ℕ) → answer ≡ reply.Result count → count ≤ length journal) → text_of listed longer answer ≡ text_of listed journal answer
 text_stays listed journal longer (reply.Result count) (more, same) within =
     ap (λ (events : List Event). file_text (result_of listed events))
@@ -170,6 +171,9 @@ ends_later ReadFault count most total xs ys none is few all (byeless, within) = 
 ends_later NoMemory count most total xs ys none is few all (byeless, within) = (no_byes xs ys none byeless, omega (arith, length-append xs ys))
 
 -- ---- sessions and their parts
+abbrev pub counted_end : SessionEnd → ℕ → CountedEnd
+counted_end end replies = record { end = end; replies = replies }
+
 module _ (listed : Listed) (desk : ℕ) where
   pub goes_nowhere : (seen : Seen) (ahead written : Option (List ℕ)) → SessionGoesOn listed desk (session_view seen ahead written) (session_view seen ahead written) 0
   goes_nowhere seen ahead written = record {
@@ -203,45 +207,52 @@ module _ (listed : Listed) (desk : ℕ) where
       }
 
   -- a part and then the end
-  pub ends_then : (before middle after : SessionView) (count most total : ℕ) (end : SessionEnd)
-      → SessionGoesOn listed desk before middle count → IsSession listed desk middle after most end
-      → count + most ≤ total → (end ≡ Messages → count + most ≡ total) → IsSession listed desk before after total end
-  ends_then before middle after count most total end one other few all =
+  pub ends_then : (before middle after : SessionView) (count most total : ℕ) (end : SessionEnd) (replies sum : ℕ)
+      → SessionGoesOn listed desk before middle count → IsCountedSession listed desk middle after most (counted_end end replies)
+      → count + most ≤ total → (end ≡ Messages → count + most ≡ total) → sum ≡ count + replies → IsCountedSession listed desk before after total (counted_end end sum)
+  ends_then before middle after count most total end replies sum one counted few all added =
+      let other : IsSession listed desk middle after most end = counted.session in
       let longer : IsPrefix middle.seen.journal after.seen.journal =
       conversation_longer listed desk middle.seen after.seen (map exchange_of other.exchanges) other.answered in
       record {
-        exchanges = one.exchanges ++ other.exchanges;
-        answered = answers_both listed desk before.seen middle.seen after.seen one.exchanges other.exchanges one.answered other.answered;
-        lines = all_lines one.exchanges other.exchanges one.lines other.lines;
-        taken = other.taken;
-        takes = other.takes;
-        read = subst (λ (l : List ℕ). Takes before.ahead after.ahead l)
-            (sym (append_assoc (unlines (exchange_lines one.exchanges)) (unlines (exchange_lines other.exchanges)) other.taken)
-            ∙ ap (λ (l : List ℕ). l ++ other.taken) (sym (lines_both one.exchanges other.exchanges)))
-            (takes_both before.ahead middle.ahead after.ahead (unlines (exchange_lines one.exchanges))
-            (unlines (exchange_lines other.exchanges) ++ other.taken) one.read other.read);
-        put = subst (λ (l : List (List ℕ)). IsWritten end before.written after.written l)
-            (sym (texts_both listed desk before.seen middle.seen after.seen one.exchanges other.exchanges one.answered longer))
-            (written_later end before.written middle.written after.written (texts_of listed middle.seen.journal one.exchanges)
-            (texts_of listed after.seen.journal other.exchanges) one.put other.put);
-        ends = lines_append (EndsAfter total end) one.exchanges other.exchanges
-            (ends_later end count most total (exchange_lines one.exchanges) (exchange_lines other.exchanges) one.no_bye (length-map one.exchanges (λ (e : LineExchange). e.line) ∙ one.counted) few all other.ends);
+        session = record {
+          exchanges = one.exchanges ++ other.exchanges;
+          answered = answers_both listed desk before.seen middle.seen after.seen one.exchanges other.exchanges one.answered other.answered;
+          lines = all_lines one.exchanges other.exchanges one.lines other.lines;
+          taken = other.taken;
+          takes = other.takes;
+          read = subst (λ (l : List ℕ). Takes before.ahead after.ahead l)
+              (sym (append_assoc (unlines (exchange_lines one.exchanges)) (unlines (exchange_lines other.exchanges)) other.taken)
+              ∙ ap (λ (l : List ℕ). l ++ other.taken) (sym (lines_both one.exchanges other.exchanges)))
+              (takes_both before.ahead middle.ahead after.ahead (unlines (exchange_lines one.exchanges))
+              (unlines (exchange_lines other.exchanges) ++ other.taken) one.read other.read);
+          put = subst (λ (l : List (List ℕ)). IsWritten end before.written after.written l)
+              (sym (texts_both listed desk before.seen middle.seen after.seen one.exchanges other.exchanges one.answered longer))
+              (written_later end before.written middle.written after.written (texts_of listed middle.seen.journal one.exchanges)
+              (texts_of listed after.seen.journal other.exchanges) one.put other.put);
+          ends = lines_append (EndsAfter total end) one.exchanges other.exchanges
+              (ends_later end count most total (exchange_lines one.exchanges) (exchange_lines other.exchanges) one.no_bye (length-map one.exchanges (λ (e : LineExchange). e.line) ∙ one.counted) few all other.ends);
+        };
+        replies = added ∙ ap (λ n. count + n) counted.replies ∙ sym (length-append one.exchanges other.exchanges ∙ ap (λ n. n + length other.exchanges) one.counted);
       }
 
   -- ---- one line
   -- an end before which nothing was answered
   pub ends_unanswered : (before after : Seen) (ahead rest written now : Option (List ℕ)) (most : ℕ) (end : SessionEnd) (taken : List ℕ)
       → Watches before after → EndTakes end taken → Takes ahead rest taken → IsWritten end written now [] → EndsAfter most end []
-      → IsSession listed desk (session_view before ahead written) (session_view after rest now) most end
+      → IsCountedSession listed desk (session_view before ahead written) (session_view after rest now) most (counted_end end 0)
   ends_unanswered before after ahead rest written now most end taken watches takes read put ends = record {
-    exchanges = [];
-    answered = watches;
-    lines = All-nil IsLine;
-    taken = taken;
-    takes = takes;
-    read = read;
-    put = put;
-    ends = ends;
+    session = record {
+      exchanges = [];
+      answered = watches;
+      lines = All-nil IsLine;
+      taken = taken;
+      takes = takes;
+      read = read;
+      put = put;
+      ends = ends;
+    };
+    replies = refl;
   }
 
   -- the line that was answered
@@ -279,64 +290,70 @@ module _ (listed : Listed) (desk : ℕ) where
   bye_ends : (before middle after : Seen) (line : List ℕ) (answer : Reply) (written now : Option (List ℕ))
       → IsLine line → IsAnswered listed desk before middle (message_of line) answer → Watches middle after
       → Appends written now (text_of listed middle.journal answer) → answer ≡ reply.Bye
-      → (rest : Option (List ℕ)) → IsSession listed desk
-      (session_view before (prepend_known (line ++ line_end ∷ []) rest) written) (session_view after rest now) 1 Bye
+      → (rest : Option (List ℕ)) → IsCountedSession listed desk
+      (session_view before (prepend_known (line ++ line_end ∷ []) rest) written) (session_view after rest now) 1 (counted_end Bye 1)
   bye_ends before middle after line answer written now is h watches put same rest = record {
-    exchanges = record { line = line; came = h.came } ∷ [];
-    answered = answered_line before middle after line answer h watches;
-    lines = All-cons IsLine line [] is (All-nil IsLine);
-    taken = [];
-    takes = refl;
-    read = ap (λ (l : List ℕ). prepend_known l rest) (sym (append-nil (line ++ line_end ∷ [])));
-    put = subst (λ (bytes : List ℕ). Appends written now bytes)
-        (one_text before middle after line answer h watches ∙ sym (append-nil (text_of listed after.journal (reply_by (message_of line) h.came)))) put;
-    ends = (last_bye line (bye_said (message_of line) h.came (sym h.replied ∙ same)), omega arith);
+    session = record {
+      exchanges = record { line = line; came = h.came } ∷ [];
+      answered = answered_line before middle after line answer h watches;
+      lines = All-cons IsLine line [] is (All-nil IsLine);
+      taken = [];
+      takes = refl;
+      read = ap (λ (l : List ℕ). prepend_known l rest) (sym (append-nil (line ++ line_end ∷ [])));
+      put = subst (λ (bytes : List ℕ). Appends written now bytes)
+          (one_text before middle after line answer h watches ∙ sym (append-nil (text_of listed after.journal (reply_by (message_of line) h.came)))) put;
+      ends = (last_bye line (bye_said (message_of line) h.came (sym h.replied ∙ same)), omega arith);
+    };
+    replies = refl;
   }
 
   pub ends_by_bye : (before middle after : Seen) (line : List ℕ) (answer : Reply) (written now : Option (List ℕ))
       → IsLine line → IsAnswered listed desk before middle (message_of line) answer → Watches middle after
-      → Appends written now (text_of listed middle.journal answer) → (end : SessionEnd) → (end ≡ Bye) × (answer ≡ reply.Bye)
-      → (rest : Option (List ℕ)) → IsSession listed desk
+      → Appends written now (text_of listed middle.journal answer) → (end : CountedEnd) → (end ≡ counted_end Bye 1) × (answer ≡ reply.Bye)
+      → (rest : Option (List ℕ)) → IsCountedSession listed desk
       (session_view before (prepend_known (line ++ line_end ∷ []) rest) written) (session_view after rest now) 1 end
   ends_by_bye before middle after line answer written now is h watches put end (ended, same) rest =
-      subst (λ (e : SessionEnd). IsSession listed desk
+      subst (λ (e : CountedEnd). IsCountedSession listed desk
       (session_view before (prepend_known (line ++ line_end ∷ []) rest) written) (session_view after rest now) 1 e) (sym ended)
       (bye_ends before middle after line answer written now is h watches put same rest)
 
   pub ends_by_cut : (before middle after : Seen) (line : List ℕ) (answer : Reply) (written now : Option (List ℕ))
       → IsLine line → IsAnswered listed desk before middle (message_of line) answer → Watches middle after
       → AppendsPrefix written now (text_of listed middle.journal answer)
-      → (rest : Option (List ℕ)) → IsSession listed desk (session_view before (prepend_known (line ++ line_end ∷ []) rest) written) (session_view after rest now) 1 WriteFault
+      → (rest : Option (List ℕ)) → IsCountedSession listed desk (session_view before (prepend_known (line ++ line_end ∷ []) rest) written) (session_view after rest now) 1 (counted_end WriteFault 1)
   ends_by_cut before middle after line answer written now is h watches (bytes, put) rest =
       let one : LineExchange = record { line = line; came = h.came } in
       record {
-        exchanges = one ∷ [];
-        answered = answered_line before middle after line answer h watches;
-        lines = All-cons IsLine line [] is (All-nil IsLine);
-        taken = [];
-        takes = refl;
-        read = ap (λ (l : List ℕ). prepend_known l rest) (sym (append-nil (line ++ line_end ∷ [])));
-        put = (
-          Bye,
-          record {
-            earlier = [];
-            last = text_of listed after.journal (reply_of one);
-            whole = refl;
-            bytes = bytes;
-            out = subst (λ (l : List ℕ). Appends written now (take bytes l)) (one_text before middle after line answer h watches) put;
-          },
-        );
-        ends = (
-          elim (bye_or_not (message_of line)) [
-            | inl bye ↦ inr (last_bye line bye)
-            | inr other ↦ inl (All-cons (λ line. message_of line ≢ Some message.Bye) line [] other (All-nil (λ line. message_of line ≢ Some message.Bye)))
-          ],
-          omega arith,
-        );
+        session = record {
+          exchanges = one ∷ [];
+          answered = answered_line before middle after line answer h watches;
+          lines = All-cons IsLine line [] is (All-nil IsLine);
+          taken = [];
+          takes = refl;
+          read = ap (λ (l : List ℕ). prepend_known l rest) (sym (append-nil (line ++ line_end ∷ [])));
+          put = (
+            Bye,
+            record {
+              earlier = [];
+              last = text_of listed after.journal (reply_of one);
+              whole = refl;
+              bytes = bytes;
+              out = subst (λ (l : List ℕ). Appends written now (take bytes l)) (one_text before middle after line answer h watches) put;
+            },
+          );
+          ends = (
+            elim (bye_or_not (message_of line)) [
+              | inl bye ↦ inr (last_bye line bye)
+              | inr other ↦ inl (All-cons (λ line. message_of line ≢ Some message.Bye) line [] other (All-nil (λ line. message_of line ≢ Some message.Bye)))
+            ],
+            omega arith,
+          );
+        };
+        replies = refl;
       }
 
   pub ends_by_memory : (before after : Seen) (line : List ℕ) (written : Option (List ℕ)) → IsLine line → Watches before after
-      → (rest : Option (List ℕ)) → IsSession listed desk (session_view before (prepend_known (line ++ line_end ∷ []) rest) written) (session_view after rest written) 1 NoMemory
+      → (rest : Option (List ℕ)) → IsCountedSession listed desk (session_view before (prepend_known (line ++ line_end ∷ []) rest) written) (session_view after rest written) 1 (counted_end NoMemory 0)
   ends_by_memory before after line written is watches rest =
       ends_unanswered before after (prepend_known (line ++ line_end ∷ []) rest) rest written written 1 NoMemory (line ++ line_end ∷ []) watches
       (line, is, refl) refl (Appends-nil written) (All-nil (λ line. message_of line ≢ Some message.Bye), omega arith)
@@ -357,7 +374,7 @@ module _ (listed : Listed) (desk : ℕ) where
   -- the line of a refusal was written
   pub ends_refused : (before after : Seen) (ahead written now : Option (List ℕ)) (most : ℕ) (end : SessionEnd) (line : List ℕ)
       → Watches before after → refusals end ≡ line ∷ [] → Appends written now line → EndsAfter most end []
-      → IsSession listed desk (session_view before ahead written) (session_view after ahead now) most end
+      → IsCountedSession listed desk (session_view before ahead written) (session_view after ahead now) most (counted_end end 0)
   ends_refused before after ahead written now most end line watches is put ends =
       let both : IsWritten end written now [] × EndTakes end [] = refused_put end written now line is put in
       ends_unanswered before after ahead ahead written now most end [] watches both.1 (takes_none ahead) both.0 ends
@@ -365,7 +382,7 @@ module _ (listed : Listed) (desk : ℕ) where
   -- the sink failed at the line of a refusal
   pub ends_by_refusal : (before after : Seen) (ahead written now : Option (List ℕ)) (most : ℕ) (end : SessionEnd) (line : List ℕ)
       → Watches before after → refusals end ≡ line ∷ [] → AppendsPrefix written now line
-      → IsSession listed desk (session_view before ahead written) (session_view after ahead now) most WriteFault
+      → IsCountedSession listed desk (session_view before ahead written) (session_view after ahead now) most (counted_end WriteFault 0)
   ends_by_refusal before after ahead written now most end line watches is (bytes, put) =
       ends_unanswered before after ahead ahead written now most WriteFault [] watches refl (takes_none ahead)
       (end, record { earlier = []; last = line; whole = is; bytes = bytes; out = put })
@@ -374,7 +391,7 @@ module _ (listed : Listed) (desk : ℕ) where
   -- ---- where no line comes
   -- input ended within a line
   pub ends_by_piece : (seen : Seen) (lines : LinesView) (before now written : Option (List ℕ)) → lines.longest ≡ MAX_LINE → GivesPiece lines before now
-      → IsSession listed desk (session_view seen before written) (session_view seen now written) 1 EndOfInput
+      → IsCountedSession listed desk (session_view seen before written) (session_view seen now written) 1 (counted_end EndOfInput 0)
   ends_by_piece seen lines before now written longest h =
       ends_unanswered seen seen before now written written 1 EndOfInput lines.line (not_begun listed desk seen)
       (subst (λ n. length lines.line ≤ n) longest h.fits, h.unbroken) h.told (Appends-nil written)
@@ -382,7 +399,7 @@ module _ (listed : Listed) (desk : ℕ) where
 
   -- input ended
   pub ends_by_end : (seen : Seen) (lines : LinesView) (before now written : Option (List ℕ)) → GivesEnd lines before now
-      → IsSession listed desk (session_view seen before written) (session_view seen now written) 1 EndOfInput
+      → IsCountedSession listed desk (session_view seen before written) (session_view seen now written) 1 (counted_end EndOfInput 0)
   ends_by_end seen lines before now written h =
       ends_unanswered seen seen before now written written 1 EndOfInput [] (not_begun listed desk seen)
       (omega arith, All-nil (λ byte. byte ≢ line_end)) (subst (λ (told : Option (List ℕ)). Takes told now []) h.same (takes_none now)) (Appends-nil written)
@@ -390,7 +407,7 @@ module _ (listed : Listed) (desk : ℕ) where
 
   -- the source failed
   pub ends_by_read : (seen : Seen) (lines : LinesView) (before now written : Option (List ℕ)) → GivesFault lines before now
-      → IsSession listed desk (session_view seen before written) (session_view seen now written) 1 ReadFault
+      → IsCountedSession listed desk (session_view seen before written) (session_view seen now written) 1 (counted_end ReadFault 0)
   ends_by_read seen lines before now written h =
       ends_unanswered seen seen before now written written 1 ReadFault [] (not_begun listed desk seen)
       refl (subst (λ (told : Option (List ℕ)). Takes told now []) h.same (takes_none now)) (Appends-nil written)

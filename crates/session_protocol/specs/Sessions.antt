@@ -8,13 +8,14 @@ use Rattle.survey_core.specs.declared.events.Event.{Event}
 use Rattle.survey_replies.specs.Outcomes.{Outcome, Exchange}
 use Rattle.survey_replies.specs.Calls.{Seen, Conversation}
 use Rattle.json_forms.specs.Messages.{message_of}
-use Rattle.json_forms.specs.Replies.{json_line, refused_json, reply_text}
+use Rattle.json_forms.specs.Replies.{IsWritable, json_line, refused_json, reply_text}
 use Rattle.json_forms.specs.declared.messages.Message.TheVariants as message
 use Rattle.json_forms.specs.declared.replies.Reply.{Reply}
 use Rattle.json_forms.specs.declared.replies.Reply.TheVariants.{Result}
 use Rattle.json_forms.specs.declared.replies.Word.TheVariants as word
 use Rattle.result_file.specs.Files.{file_text, result_of}
 use Rattle.result_file.specs.declared.limits.TheConstants.{MAX_LINE}
+use Rattle.session_protocol.specs.declared.sessions.CountedEnd.{CountedEnd}
 use Rattle.session_protocol.specs.declared.sessions.SessionEnd.{SessionEnd}
 use Rattle.session_protocol.specs.declared.sessions.SessionEnd.TheVariants.{Bye, EndOfInput, LineTooLong, Messages, WriteFault, NoMemory}
 use Rattle.session_protocol.specs.Exchanges.{asked_by, reply_by}
@@ -36,6 +37,11 @@ reply_of one = reply_by (message_of one.line) one.came
 abbrev pub text_of : Listed → List Event → Reply → List ℕ
 text_of listed journal (Result count) = file_text (result_of listed (take count journal))
 text_of listed journal reply = reply_text listed.criteria.levels reply
+
+-- the reply can be written when the journal is this: values have a vector of the model, and a result is of no more events
+pub record CanBeWritten (listed : Listed) (journal : List Event) (reply : Reply) : Type 0 where
+  pub writable : IsWritable listed.criteria.levels reply
+  pub within : (count : ℕ) → reply ≡ Result count → count ≤ length journal
 
 -- lines that are answered one after another, each by one exchange with the respondent
 abbrev pub AnswersLines : Listed → ℕ → Seen → Seen → List LineExchange → Type 0
@@ -121,6 +127,11 @@ pub record IsSession (listed : Listed) (desk : ℕ) (before after : SessionView)
   pub read : Takes before.ahead after.ahead (unlines (exchange_lines exchanges) ++ taken)
   pub put : IsWritten end before.written after.written (texts_of listed after.seen.journal exchanges)
   pub ends : EndsAfter most end (exchange_lines exchanges)
+
+-- the same, with the number of replies: one to each of these lines
+pub record IsCountedSession (listed : Listed) (desk : ℕ) (before after : SessionView) (most : ℕ) (counted : CountedEnd) : Type 0 where
+  pub session : IsSession listed desk before after most counted.end
+  pub replies : counted.replies ≡ length session.exchanges
 
 -- an end that a whole line can bring
 abbrev pub IsEndAtLine : SessionEnd → Type 0
