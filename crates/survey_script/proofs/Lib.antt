@@ -1,4 +1,5 @@
 pub mod TextLemmas
+pub mod SplitLemmas
 pub mod HelloLemmas
 pub mod StepLemmas
 pub mod WithinLemmas

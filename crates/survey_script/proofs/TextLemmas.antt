@@ -11,7 +11,7 @@ use Rattle.survey_script.specs.Scripts.{begin_with, lines_in}
 use Rattle.survey_script.specs.Steps.{LeavesRest}
 
 -- a line and its line end at the front of a text
-lines_in-line : (line rest : List ℕ) → HasNoLineEnd line → lines_in (line ++ line_end ∷ rest) ≡ line ∷ lines_in rest
+pub lines_in-line : (line rest : List ℕ) → HasNoLineEnd line → lines_in (line ++ line_end ∷ rest) ≡ line ∷ lines_in rest
 lines_in-line [] rest none = refl
 lines_in-line (byte ∷ line) rest none =
     let lines : List (List ℕ) = lines_in (line ++ line_end ∷ rest) in
@@ -19,7 +19,7 @@ lines_in-line (byte ∷ line) rest none =
     ∙ ap (begin_with byte) (lines_in-line line rest (All-tail (λ b. b ≢ line_end) byte line none))
 
 -- a text that is one line without its line end
-lines_in-piece : (byte : ℕ) (piece : List ℕ) → HasNoLineEnd (byte ∷ piece) → lines_in (byte ∷ piece) ≡ (byte ∷ piece) ∷ []
+pub lines_in-piece : (byte : ℕ) (piece : List ℕ) → HasNoLineEnd (byte ∷ piece) → lines_in (byte ∷ piece) ≡ (byte ∷ piece) ∷ []
 lines_in-piece byte [] none =
     ap (λ (b : Bool). if b then [] ∷ [] else begin_with byte []) (ne_eqb byte line_end (All-head (λ b. b ≢ line_end) byte [] none))
 lines_in-piece byte (next ∷ piece) none =

@@ -5,10 +5,12 @@
 //! respondents and desks exist, each session goes up to its one bye, and there are at most [`MAX_SESSIONS`] sessions and
 //! [`MAX_SCRIPT_LINES`] lines after the definition. `admit` makes the tests on a hello in their order.
 //!
-//! Inside: `reading` goes from line to line, and `sessions_so_far` says what a line does to the sessions before it.
+//! Inside: `reading` goes from line to line, and `sessions_so_far` says what a line does to the sessions before it. `laws` says that
+//! the lines of a text are those that `edges` splits it into.
 #![tactic(auto)]
 
 mod hellos;
+pub mod laws;
 mod limits;
 mod reading;
 mod scripts;

@@ -43,10 +43,25 @@ fn at(line: u32, part: ScriptPart) -> Option<ScriptStop> {
     Some(ScriptStop::Script { line, part })
 }
 
-/// The first line that fails, and its part.
+/// The first of the lines after the definition's, whose stop isn't the one beside them, in pieces of 1 and 64 bytes.
+fn first_other(
+    alloc: Global,
+    table: &[(&'static [u8], Option<ScriptStop>)],
+) -> Result<Option<&'static [u8]>, NoMemory> {
+    for (lines, stop) in table {
+        for piece in [1, 64] {
+            if stop_of(alloc, &[(DEFINITION, 1), (*lines, 1)], piece, &[])? != *stop {
+                return Ok(Some(*lines));
+            }
+        }
+    }
+    Ok(None)
+}
+
+/// A line outside a session that is no hello, or one that fails a test: the first and its part.
 #[test]
-fn script_faults(rt: HostRuntime) -> Result<(), Fail> {
-    let table: [(&[u8], Option<ScriptStop>); 22] = [
+fn script_faults_at_a_hello(rt: HostRuntime) -> Result<(), Fail> {
+    let table: [(&[u8], Option<ScriptStop>); 13] = [
         // No session.
         (b"", None),
         (b"{\"ask\":\"next\"}\n", at(2, ScriptPart::Hello)),
@@ -86,6 +101,15 @@ fn script_faults(rt: HostRuntime) -> Result<(), Fail> {
             b"{\"hello\":{\"code\":\"k1\",\"desk\":4294967297,\"name\":\"ana\"}}\n",
             at(2, ScriptPart::Desk),
         ),
+    ];
+    assert!(rt; first_other(rt.alloc(), table.as_slice())? == None);
+    Ok(())
+}
+
+/// What stands in a session up to its bye, and after it.
+#[test]
+fn script_faults_in_a_session(rt: HostRuntime) -> Result<(), Fail> {
+    let table: [(&[u8], Option<ScriptStop>); 9] = [
         // Input ends in a session.
         (
             b"{\"hello\":{\"code\":\"k1\",\"desk\":1,\"name\":\"ana\"}}\n",
@@ -127,12 +151,7 @@ fn script_faults(rt: HostRuntime) -> Result<(), Fail> {
             at(4, ScriptPart::Hello),
         ),
     ];
-    for piece in [1, 64] {
-        for (lines, stop) in table {
-            let found = stop_of(rt.alloc(), &[(DEFINITION, 1), (lines, 1)], piece, &[])?;
-            assert!(rt; found == stop, "{lines:?}");
-        }
-    }
+    assert!(rt; first_other(rt.alloc(), table.as_slice())? == None);
     Ok(())
 }
 
