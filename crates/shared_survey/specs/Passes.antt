@@ -59,6 +59,10 @@ pub record StaysPass (survey : Survey) (old new : Pass) : Type 0 where
   pub weight : pass_weight new ≡ pass_weight old
   pub desk : desk_of new ≡ desk_of old
 
--- the journal that a front stands for
+-- what a front stands for: the journal that the pass had seen, and the places of it that were its own
+abbrev pub front_seen : Front → Seen
+front_seen front = pass_seen front.of.value
+
+-- the journal alone
 abbrev pub front_journal : Front → List Event
-front_journal seen = (pass_seen seen.of.value).journal
+front_journal front = (front_seen front).journal

@@ -31,12 +31,13 @@ pub struct Front {
 
 impl Pass {
     ghost use Rattle.pair_enumeration.specs.Listed.{IsListed};
-    ghost use Rattle.shared_survey.specs.Passes.{BelongsTo, desk_of, front_journal, pass_seen, survey_listed};
+    ghost use Rattle.shared_survey.specs.Passes.{BelongsTo, desk_of, front_journal, front_seen, pass_seen, survey_listed};
 
     /// The journal that it has seen.
     pub fn front(&self) -> Front
-        ensures journal { front_journal result ≡ (pass_seen self.now).journal }
+        ensures seen { front_seen result ≡ pass_seen self.now }
         ensures length { result.length ≡ length (front_journal result) }
+        ensures listed { (survey : Survey) → BelongsTo survey self.now → IsListed (survey_listed survey) }
         ensures legal { (survey : Survey) → BelongsTo survey self.now → IsLegal (survey_listed survey) (front_journal result) }
     {
         Front {
