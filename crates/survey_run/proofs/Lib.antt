@@ -1,0 +1,17 @@
+pub mod EachLemmas
+pub mod SayLemmas
+pub mod Crosses
+pub mod BenchCrosses
+pub mod WorkerLemmas
+pub mod PlanLemmas
+pub mod ListLemmas
+pub mod RunLemmas
+pub mod FoundLemmas
+pub mod SurveyRunLemmas
+pub mod RunByLemmas
+pub mod ChangeLemmas
+pub mod GatherLemmas
+pub mod CollectLemmas
+pub mod ScriptRunLemmas
+pub mod LawLemmas
+pub mod SampleRunLemmas

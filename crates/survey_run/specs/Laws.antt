@@ -1,0 +1,59 @@
+-- What a run comes to: the headline, clause by clause, each over the one journal of a respondent's survey.
+use Rattle.std.specs.Prelude.{◌≡◌, ◌≢◌, ℕ, ◌≤◌, List, [], map, All, AllPairs, Some, slice_get}
+use Rattle.criteria_model.specs.Criteria.{Criteria}
+use Rattle.criteria_model.specs.declared.pairs.Side.{Side}
+use Rattle.farkas_check.specs.declared.combination.Combination.{Combination}
+use Rattle.survey_core.specs.declared.events.Event.{Event}
+use Rattle.survey_core.specs.declared.events.Event.TheVariants.{Eliminate}
+use Rattle.survey_replies.specs.Gists.{gist_of}
+use Rattle.survey_replies.specs.Outcomes.{Exchange, at_of}
+use Rattle.survey_replies.specs.Calls.{IsReplyIn, end_of, occurrences, reply_places}
+use Rattle.survey_replies.specs.CallLaws.{IsNoEliminate}
+use Rattle.survey_replies.specs.PlainRun.{IsPlainRun, plain_start}
+use Rattle.survey_state.specs.States.{Surveyed}
+use Rattle.session_protocol.specs.Exchanges.{asked_by}
+use Rattle.session_protocol.specs.Sessions.{CanBeWritten}
+use Rattle.survey_run.specs.Runs.{IsSurveyRun}
+use Rattle.survey_run.specs.Sessions.{SessionRun, all_exchanges, of_desk, replies_of}
+
+-- each reply is the right one in the final journal, at its place: by the reply law, with certificates that hold, with each class ranked that
+-- it needs ranked, and with its events there
+abbrev pub EachReplyStands : Type 0
+EachReplyStands =
+    (criteria : Criteria) (workers : ℕ) (sessions : List SessionRun) (state : Surveyed) → IsSurveyRun criteria workers sessions state
+    → All (λ session. All (λ one. IsReplyIn state.listed session.desk state.journal (asked_by one.message) one.came) session.messages) sessions
+
+-- over all sessions of a desk, in input order, no reply is made before the last turn of an earlier one
+abbrev pub DeskReadsWhatItWrote : Type 0
+DeskReadsWhatItWrote =
+    (criteria : Criteria) (workers : ℕ) (sessions : List SessionRun) (state : Surveyed) (desk : ℕ) → IsSurveyRun criteria workers sessions state
+    → AllPairs (λ one other. end_of state.journal one.reply ≤ at_of other.reply) (all_exchanges (of_desk desk sessions))
+
+-- each event of the journal that is no Eliminate stands in the last turn of exactly one reply
+abbrev pub EachEventHasItsReply : Type 0
+EachEventHasItsReply =
+    (criteria : Criteria) (workers : ℕ) (sessions : List SessionRun) (state : Surveyed) (place : ℕ) (event : Event)
+    → IsSurveyRun criteria workers sessions state → slice_get state.journal place ≡ Some event → IsNoEliminate event
+    → occurrences place (reply_places state.journal (all_exchanges sessions)) ≡ 1
+
+-- each Eliminate names worker 0, a session, or one of the eliminators
+abbrev pub EachEliminateHasItsMaker : Type 0
+EachEliminateHasItsMaker =
+    (criteria : Criteria) (workers : ℕ) (sessions : List SessionRun) (state : Surveyed) (place worker class : ℕ) (verdict : Side) (combination : Combination)
+    → IsSurveyRun criteria workers sessions state → slice_get state.journal place ≡ Some (Eliminate worker class verdict combination) → worker ≤ workers
+
+-- where all sessions are of one desk, its replies are those of the plain run, and, certificates apart, of every plain run of the same
+-- requests: eliminations change none
+abbrev pub OneDeskRunsPlain : Type 0
+OneDeskRunsPlain =
+    (criteria : Criteria) (workers : ℕ) (sessions : List SessionRun) (state : Surveyed) (desk : ℕ) → IsSurveyRun criteria workers sessions state
+    → All (λ session. session.desk ≡ desk) sessions → sessions ≢ []
+    → IsPlainRun state.listed plain_start (all_exchanges sessions)
+    × ((others : List Exchange) → map (λ exchange. exchange.request) others ≡ map (λ exchange. exchange.request) (all_exchanges sessions)
+    → IsPlainRun state.listed plain_start others → map (λ exchange. gist_of exchange.reply) others ≡ map (λ exchange. gist_of exchange.reply) (all_exchanges sessions))
+
+-- each reply can be written with the final journal
+abbrev pub EachReplyCanBeWritten : Type 0
+EachReplyCanBeWritten =
+    (criteria : Criteria) (workers classes : ℕ) (sessions : List SessionRun) (state : Surveyed) → IsSurveyRun criteria workers sessions state
+    → All (λ session. All (CanBeWritten state.listed state.journal) (replies_of classes session)) sessions

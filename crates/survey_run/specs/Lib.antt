@@ -1,0 +1,17 @@
+pub mod Sessions
+pub mod RunViews
+pub mod Runs
+pub mod Each
+pub mod Desks
+pub mod DeskRuns
+pub mod Workers
+pub mod WorkerRuns
+pub mod Plans
+pub mod Joins
+pub mod Ends
+pub mod Tops
+pub mod Collects
+pub mod Collecting
+pub mod Prepared
+pub mod Laws
+pub mod SampleRuns
