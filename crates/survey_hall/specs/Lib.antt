@@ -1,0 +1,13 @@
+pub mod HallViews
+pub mod Admissions
+pub mod ConnectionViews
+pub mod Greetings
+pub mod Visits
+pub mod Services
+pub mod Connections
+pub mod ConnectionThreads
+pub mod Serves
+pub mod Rooms
+pub mod EliminatorSeats
+pub mod EliminatorBenches
+pub mod Stacks

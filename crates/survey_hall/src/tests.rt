@@ -1,0 +1,353 @@
+//! Connections over memory.
+use crate::{Hall, ServeStop, Served, serve, serve_connection};
+use edges::{DoorEnds, MemDoor, MemSink, MemSource, OpenGate};
+use json_forms::{Word, read_definition};
+use session_protocol::SessionEnd;
+use std::alloc::Global;
+use std::sync::Wait;
+use std::test::Fail;
+use std::thread::Threads;
+
+/// Three criteria of two levels, and one respondent.
+const DEFINITION: &[u8] =
+    b"{\"criteria\":[{\"levels\":[\"high\",\"low\"],\"name\":\"price\"},{\"levels\":[\"slow\",\"fast\"],\"name\":\"speed\"},\
+    {\"levels\":[\"loud\",\"quiet\"],\"name\":\"noise\"}],\"degree\":3,\"respondents\":[{\"code\":\"k1\",\"name\":\"ana\"}]}";
+
+const HELLO: &[u8] = b"{\"hello\":{\"code\":\"k1\",\"desk\":1,\"name\":\"ana\"}}\n";
+
+const HELLO_2: &[u8] = b"{\"hello\":{\"code\":\"k1\",\"desk\":2,\"name\":\"ana\"}}\n";
+
+const NEXT: &[u8] = b"{\"ask\":\"next\"}\n";
+
+const ANSWER: &[u8] = b"{\"answer\":{\"question\":1,\"side\":\"left\"}}\n";
+
+const BYE: &[u8] = b"{\"ask\":\"bye\"}\n";
+
+const WELCOME: &[u8] = b"{\"welcome\":{\"classes\":6,\"desk\":1}}\n";
+
+const WELCOME_2: &[u8] = b"{\"welcome\":{\"classes\":6,\"desk\":2}}\n";
+
+const QUESTION: &[u8] = b"{\"question\":{\"left\":[2,1,0],\"number\":1,\"right\":[1,2,0]}}\n";
+
+const ACCEPTED: &[u8] = b"{\"accepted\":1}\n";
+
+const CLOSED: &[u8] = b"{\"closed\":1}\n";
+
+const BYE_REPLY: &[u8] = b"{\"bye\":true}\n";
+
+const REFUSED_LINE: &[u8] = b"{\"refused\":\"line\"}\n";
+
+/// What a connection was served, with the length of the front.
+#[derive(Clone, Copy, PartialEq, Eq, Debug)]
+enum Told {
+    Refused(Word),
+    Early(SessionEnd),
+    Ran {
+        began: u32,
+        length: u32,
+        replies: u32,
+        end: SessionEnd,
+    },
+}
+
+fn hall_of(alloc: Global) -> Result<Hall, Fail> {
+    let definition = read_definition(alloc, DEFINITION).ok().ok_or("definition")?;
+    Ok(Hall::build(alloc, definition, 0)?)
+}
+
+fn tell_of(served: &Served) -> Told {
+    match served {
+        Served::Refused(word) => Told::Refused(*word),
+        Served::Early(end) => Told::Early(*end),
+        Served::Ran {
+            began,
+            front,
+            replies,
+            end,
+        } => Told::Ran {
+            began: *began,
+            length: front.length,
+            replies: *replies,
+            end: *end,
+        },
+    }
+}
+
+/// Serves a connection that says these texts, in pieces; the calls of its source and sink with these numbers fail.
+fn served<R: Wait + Sync>(
+    rt: &R,
+    alloc: Global,
+    hall: &Hall,
+    said: &[&[u8]],
+    fails: (u32, u32),
+) -> Result<(Told, MemSink), Fail> {
+    let mut text = Vec::new(alloc);
+    for part in said {
+        text.extend_from_slice(part)?;
+    }
+    let mut source = MemSource::new(alloc, text.as_slice(), 1_000, &[fails.0])?;
+    let mut sink = MemSink::new(alloc, 1_000, &[fails.1])?;
+    let served = serve_connection(rt, alloc, hall, &mut source, &mut sink, &OpenGate);
+    Ok((tell_of(&served), sink))
+}
+
+/// Whether these bytes are the texts, one after another.
+fn are(bytes: &[u8], texts: &[&[u8]]) -> bool {
+    let mut rest = bytes;
+    for text in texts {
+        match rest.strip_prefix(*text) {
+            Some(more) => rest = more,
+            None => return false,
+        }
+    }
+    rest.is_empty()
+}
+
+/// A session at a desk up to its bye.
+fn to_bye(began: u32, length: u32, replies: u32) -> Told {
+    Told::Ran {
+        began,
+        length,
+        replies,
+        end: SessionEnd::Bye,
+    }
+}
+
+/// Three connections one after another: a question at one desk is answered at another, and is then closed at the first.
+#[test]
+fn connections_share_survey(rt: HostRuntime) -> Result<(), Fail> {
+    let hall = hall_of(rt.alloc())?;
+    let table: [([&[u8]; 3], Told, &[&[u8]]); 3] = [
+        (
+            [HELLO, NEXT, BYE],
+            to_bye(0, 1, 2),
+            &[WELCOME, QUESTION, BYE_REPLY],
+        ),
+        (
+            [HELLO_2, ANSWER, BYE],
+            to_bye(0, 2, 2),
+            &[WELCOME_2, ACCEPTED, BYE_REPLY],
+        ),
+        (
+            [HELLO, ANSWER, BYE],
+            to_bye(1, 2, 2),
+            &[WELCOME, CLOSED, BYE_REPLY],
+        ),
+    ];
+    for (said, want, replied) in table {
+        let (told, sink) = served(&rt, rt.alloc(), &hall, &said, (0, 0))?;
+        assert!(rt; told == want, "{told:?}, not {want:?}");
+        assert!(rt; are(sink.bytes(), replied));
+    }
+    Ok(())
+}
+
+/// The sink fails at each call in turn: what was replied before is out, and what was answered is kept.
+#[test]
+fn sink_fails_third(rt: HostRuntime) -> Result<(), Fail> {
+    let table: [(u32, u32, u32, &[&[u8]]); 4] = [
+        (1, 0, 0, &[]),
+        (2, 1, 1, &[WELCOME]),
+        (3, 2, 2, &[WELCOME, QUESTION]),
+        (4, 2, 3, &[WELCOME, QUESTION, ACCEPTED]),
+    ];
+    for (call, length, replies, replied) in table {
+        let hall = hall_of(rt.alloc())?;
+        let (told, sink) = served(
+            &rt,
+            rt.alloc(),
+            &hall,
+            &[HELLO, NEXT, ANSWER, BYE],
+            (0, call),
+        )?;
+        let want = Told::Ran {
+            began: 0,
+            length,
+            replies,
+            end: SessionEnd::WriteFault,
+        };
+        assert!(rt; told == want, "{told:?}, not {want:?}");
+        assert!(rt; are(sink.bytes(), replied));
+    }
+    Ok(())
+}
+
+/// First lines that fail a test, each at the first one that it fails.
+#[test]
+fn refused_hello(rt: HostRuntime) -> Result<(), Fail> {
+    let hall = hall_of(rt.alloc())?;
+    let table: [(&[u8], Word, &[u8]); 6] = [
+        (NEXT, Word::Hello, b"{\"refused\":\"hello\"}\n"),
+        (b"\n", Word::Hello, b"{\"refused\":\"hello\"}\n"),
+        (
+            b"{\"hello\":{\"code\":\"zz\",\"desk\":5,\"name\":\"bob\"}}\n",
+            Word::Name,
+            b"{\"refused\":\"name\"}\n",
+        ),
+        (
+            b"{\"hello\":{\"code\":\"zz\",\"desk\":5,\"name\":\"ana\"}}\n",
+            Word::Code,
+            b"{\"refused\":\"code\"}\n",
+        ),
+        (
+            b"{\"hello\":{\"code\":\"k1\",\"desk\":5,\"name\":\"ana\"}}\n",
+            Word::Desk,
+            b"{\"refused\":\"desk\"}\n",
+        ),
+        (
+            b"{\"hello\":{\"code\":\"k1\",\"desk\":0,\"name\":\"ana\"}}\n",
+            Word::Desk,
+            b"{\"refused\":\"desk\"}\n",
+        ),
+    ];
+    for (hello, word, replied) in table {
+        let (told, sink) = served(&rt, rt.alloc(), &hall, &[hello, BYE], (0, 0))?;
+        assert!(rt; told == Told::Refused(word), "{told:?}, not {word:?}");
+        assert!(rt; are(sink.bytes(), &[replied]));
+    }
+    Ok(())
+}
+
+/// A line that is no message is refused in a session. One that input ends within is dropped.
+#[test]
+fn cut_message(rt: HostRuntime) -> Result<(), Fail> {
+    let hall = hall_of(rt.alloc())?;
+    let ended = Told::Ran {
+        began: 0,
+        length: 0,
+        replies: 0,
+        end: SessionEnd::EndOfInput,
+    };
+    let table: [([&[u8]; 3], Told, &[&[u8]]); 2] = [
+        ([HELLO, b"{\"ask\":\"next\"", b""], ended, &[WELCOME]),
+        (
+            [HELLO, b"hi\n", BYE],
+            to_bye(0, 0, 2),
+            &[WELCOME, b"{\"refused\":\"message\"}\n", BYE_REPLY],
+        ),
+    ];
+    for (said, want, replied) in table {
+        let (told, sink) = served(&rt, rt.alloc(), &hall, &said, (0, 0))?;
+        assert!(rt; told == want, "{told:?}, not {want:?}");
+        assert!(rt; are(sink.bytes(), replied));
+    }
+    Ok(())
+}
+
+/// Connections that end before a whole first line came, or by a fault at it.
+#[test]
+fn early_ends(rt: HostRuntime) -> Result<(), Fail> {
+    let hall = hall_of(rt.alloc())?;
+    let long = vec![in rt.alloc(); b' '; 4_097]?;
+    let half: &[u8] = b"{\"hello\":{\"code\":\"k1\",\"desk\":1,\"name\":\"ana\"}}";
+    let table: [(&[u8], (u32, u32), SessionEnd, &[&[u8]]); 7] = [
+        (b"", (0, 0), SessionEnd::EndOfInput, &[]),
+        (half, (0, 0), SessionEnd::EndOfInput, &[]),
+        (
+            long.as_slice(),
+            (0, 0),
+            SessionEnd::LineTooLong,
+            &[REFUSED_LINE],
+        ),
+        (long.as_slice(), (0, 1), SessionEnd::WriteFault, &[]),
+        (NEXT, (0, 1), SessionEnd::WriteFault, &[]),
+        (HELLO, (1, 0), SessionEnd::ReadFault, &[]),
+        (half, (2, 0), SessionEnd::ReadFault, &[]),
+    ];
+    for (said, fails, end, replied) in table {
+        let (told, sink) = served(&rt, rt.alloc(), &hall, &[said], fails)?;
+        assert!(rt; told == Told::Early(end), "{told:?}, not {end:?}");
+        assert!(rt; are(sink.bytes(), replied));
+    }
+    Ok(())
+}
+
+/// A message of 4,096 bytes is answered, one of 4,097 bytes ends the session.
+#[test]
+fn longest_line(rt: HostRuntime) -> Result<(), Fail> {
+    let table: [(usize, SessionEnd, &[u8]); 2] = [
+        (4_082, SessionEnd::EndOfInput, QUESTION),
+        (4_083, SessionEnd::LineTooLong, REFUSED_LINE),
+    ];
+    for (blanks, end, replied) in table {
+        let hall = hall_of(rt.alloc())?;
+        let blank = vec![in rt.alloc(); b' '; blanks]?;
+        let (told, sink) = served(
+            &rt,
+            rt.alloc(),
+            &hall,
+            &[HELLO, blank.as_slice(), NEXT],
+            (0, 0),
+        )?;
+        assert!(rt;
+            matches!(told, Told::Ran { end: ended, .. } if ended == end),
+            "{told:?}, not {end:?}"
+        );
+        assert!(rt; are(sink.bytes(), &[WELCOME, replied]));
+    }
+    Ok(())
+}
+
+/// A door with connections that say these texts, each with the call of its sink that fails.
+fn door_of(alloc: Global, connections: &[(&[u8], u32)]) -> Result<MemDoor, Fail> {
+    let mut ends = DoorEnds::new(alloc);
+    for (said, fails) in connections {
+        let source = MemSource::new(alloc, said, 1_000, &[])?;
+        let sink = MemSink::new(alloc, 1_000, &[*fails])?;
+        ends.push(source, sink)?;
+    }
+    Ok(MemDoor::new(ends))
+}
+
+/// What connections at a door were served, or why none was told.
+fn at_door<R: Threads + Wait + Sync>(
+    rt: &R,
+    alloc: Global,
+    connections: &[(&[u8], u32)],
+    count: u32,
+    workers: u32,
+) -> Result<Result<Vec<Told>, ServeStop>, Fail> {
+    let definition = read_definition(alloc, DEFINITION).ok().ok_or("definition")?;
+    let workers = workers.min(2);
+    let hall = Hall::build(alloc, definition, workers)?;
+    let mut door = door_of(alloc, connections)?;
+    let count = count.max(1).min(9);
+    let end = match serve(rt, alloc, &hall, &mut door, count, workers, &OpenGate) {
+        Ok(end) => end,
+        Err(stop) => return Ok(Err(stop)),
+    };
+    let mut list = Vec::new(alloc);
+    for number in 0..end.count() {
+        list.push(tell_of(end.served(number + 1)))?;
+    }
+    Ok(Ok(list))
+}
+
+/// A door fails after the connections that it has.
+#[test]
+fn door_fault(rt: HostRuntime) -> Result<(), Fail> {
+    let said: &[u8] =
+        b"{\"hello\":{\"code\":\"k1\",\"desk\":1,\"name\":\"ana\"}}\n{\"ask\":\"bye\"}\n";
+    let cut = Told::Ran {
+        began: 0,
+        length: 0,
+        replies: 0,
+        end: SessionEnd::WriteFault,
+    };
+    let bye = to_bye(0, 0, 1);
+    let table: [(&[(&[u8], u32)], u32, u32, Option<[Told; 2]>); 4] = [
+        (&[(said, 0), (said, 0)], 2, 0, Some([bye, bye])),
+        (&[(said, 0), (said, 0)], 2, 2, Some([bye, bye])),
+        (&[(said, 1), (said, 0)], 2, 1, Some([cut, bye])),
+        (&[(said, 0), (said, 0)], 3, 1, None),
+    ];
+    for (connections, count, workers, want) in table {
+        let told = at_door(&rt, rt.alloc(), connections, count, workers)?;
+        match (told, want) {
+            (Ok(told), Some(want)) => assert!(rt; told.as_slice() == want.as_slice()),
+            (Err(stop), None) => assert!(rt; stop == ServeStop::DoorFault),
+            _ => assert!(rt; false, "another answer"),
+        }
+    }
+    Ok(())
+}
