@@ -1,10 +1,10 @@
 //! The program `paprika`: `survey_server`'s commands over the standard ends.
 #![tactic(auto)]
 
-use edges::{StdSink, StdSource};
+use edges::{OpenGate, StdSink, StdSource};
 use std::process::ExitCode;
 use std::{env, io};
-use survey_server::plain_command;
+use survey_server::command;
 
 fn main(rt: HostRuntime) -> ExitCode {
     // Words that are no text are the words of no command.
@@ -15,7 +15,8 @@ fn main(rt: HostRuntime) -> ExitCode {
     };
     let mut source = StdSource::new(rt.stdin());
     let mut sink = StdSink::new(rt.stdout());
-    ExitCode::from(plain_command(rt.alloc(), words.as_slice(), &mut source, &mut sink))
+    let ended = command(&rt, rt.alloc(), words.as_slice(), &mut source, &mut sink, &OpenGate);
+    ExitCode::from(ended.status)
 }
 
 /// The words after the program's name.

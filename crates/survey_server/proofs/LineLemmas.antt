@@ -4,6 +4,7 @@ use Rattle.std.specs.Prelude.{Option, Some, None, IfSome}
 use Rattle.std.proofs.lemmas.List.{append-nil, drop_all}
 use Rattle.edges.specs.Line.{HasNoLineEnd, first_line, line_end}
 use Rattle.edges.specs.Lines.{GivesEnd, GivesLine, GivesPiece, GivesTooLong, LinesView, ahead}
+use Rattle.edges.specs.Told.{IsAtEnd}
 use Rattle.edges.proofs.LineLaws.{first_line-line, first_line-long, first_line-piece}
 use Rattle.survey_server.specs.RankInput.{LineIs, after_first_line}
 
@@ -65,3 +66,13 @@ too_long_given new (Some text) (Some rest) gives =
     let same : Some (new.kept ++ rest) ≡ Some text = gives.same in
     let whole : new.kept ++ rest ≡ text = cc in
     subst (λ (xs : List ℕ). new.longest < length (first_line xs)) whole (first_line-long new.kept rest new.longest gives.too_many gives.unbroken)
+
+-- ---- the end
+none_behind : (kept bytes : List ℕ) → kept ++ bytes ≡ [] → bytes ≡ []
+none_behind [] bytes ended = ended
+none_behind (byte ∷ kept) bytes ended = absurd (cc)
+
+-- where nothing is left of what a reader kept and then of its source, nothing is left of the source
+pub source_ended : (lines : LinesView) (left : Option (List ℕ)) → IsAtEnd (ahead lines left) → IsAtEnd left
+source_ended lines None ended = tt
+source_ended lines (Some bytes) ended = none_behind lines.kept bytes ended

@@ -88,10 +88,10 @@ done_by text ranked (Err (Definition fault)) before now status one is answered n
 done_by text ranked (Err Values) before now status one is answered no_read no_write =
     absurd (input_once text (leading_definition text) refl ranked Values (λ e. cc) (λ e. cc) one is)
 
-pub done_where_rankable : (told before now : Option (List ℕ)) (read_before read_now written_before written_now status : ℕ) → RanksTable told before now status
+pub done_where_rankable : (told left before now : Option (List ℕ)) (read_before read_now written_before written_now status : ℕ) → RanksTable told left before now status
     → CountsFaults (status ≡ 3) read_before read_now → CountsFaults (status ≡ 4) written_before written_now
     → IsRankable told → (¬ HasRisen read_before read_now) → (¬ HasRisen written_before written_now) → (status ≡ 0) ⊎ (status ≡ 5)
-done_where_rankable told before now read_before read_now written_before written_now status ranks reads writes rankable no_read no_write =
+done_where_rankable told left before now read_before read_now written_before written_now status ranks reads writes rankable no_read no_write =
     let known : UnlessStopped ranks.outcome (IsInputOutcome rankable.0 ranks.outcome) =
     subst (λ (o : Option (List ℕ)). IsToldInput o ranks.outcome) rankable.2 ranks.ranked in
     done_by rankable.0 rankable.1 ranks.outcome before now status rankable.3 known ranks.answered

@@ -3,7 +3,7 @@ use Rattle.std.specs.Prelude.{◌≡◌, ◌⊎◌, ℕ, List, [], ◌++◌, map
 use Rattle.std.specs.Fmt.{decimal}
 use Rattle.std.specs.String.{string_bytes}
 use Rattle.std.specs.declared.alloc.Global.{Global}
-use Rattle.edges.specs.Told.{Appends, AppendsPrefix}
+use Rattle.edges.specs.Told.{Appends, AppendsPrefix, IsAtEnd}
 use Rattle.criteria_model.specs.declared.faults.ModelFault.{ModelFault}
 use Rattle.criteria_model.specs.Criteria.{Criteria}
 use Rattle.criteria_model.specs.Faults.{model_fault}
@@ -54,7 +54,7 @@ IsNoCommand words =
 
 -- the line that words of no command get
 abbrev pub usage_line : List ℕ
-usage_line = codes "usage: paprika check | migrate | rank | sample SEED SHAPE\n"
+usage_line = codes "usage: paprika check | migrate | rank | sample SEED SHAPE | run [--eliminators N] [--sample SEED --shape SHAPE]\n"
 
 -- the line of a verdict
 abbrev pub verdict_line : Checked → List ℕ
@@ -148,15 +148,25 @@ abbrev pub AnswersRanking : Result (List NamedWorthView) RankRefusal → Option 
 AnswersRanking (Ok ranked) before now status = Writes (ranked_text ranked) 0 before now status
 AnswersRanking (Err refusal) before now status = AnswersRefusal refusal before now status
 
+-- a table that is ranked was read to its end
+abbrev pub EndsTable : Result (List NamedWorthView) RankRefusal → Option (List ℕ) → Type 0
+EndsTable (Ok ranked) left = IsAtEnd left
+EndsTable (Err refusal) left = Unit {0}
+
 -- the table of a source was ranked or refused, and that answered
-pub record RanksTable (told before now : Option (List ℕ)) (status : ℕ) : Type 0 where
+pub record RanksTable (told left before now : Option (List ℕ)) (status : ℕ) : Type 0 where
   pub outcome : Result (List NamedWorthView) RankRefusal
   pub ranked : IsToldInput told outcome
+  pub ended : EndsTable outcome left
   pub answered : AnswersRanking outcome before now status
 
 -- the source holds a text that has a ranking, and that is known
 abbrev pub IsRankable : Option (List ℕ) → Type 0
 IsRankable told = (text : List ℕ) × (ranked : List NamedWorthView) × (told ≡ Some text) × IsInputOutcome text (Ok ranked)
+
+-- the line of a sample survey was written with status 0, or there was no memory for it
+abbrev pub WritesSummary : ℕ → Shape → Summary → Option (List ℕ) → Option (List ℕ) → ℕ → Type 0
+WritesSummary seed shape summary before now status = Writes (sample_line seed shape summary) 0 before now status ⊎ IsSilent 5 before now status
 
 -- the line of the sample survey of a seed and a shape of this model was written with status 0, or there was no memory for it
 abbrev pub SamplesModel : ℕ → Shape → Criteria → Option (List ℕ) → Option (List ℕ) → ℕ → Type 0

@@ -1,20 +1,29 @@
 //! The commands of the program.
 //!
-//! `plain_command` does what the program's words say over any source and sink, and returns the status: it checks a file of claims or
-//! the result of a survey, copies a result into the second format, ranks the alternatives of a table, or runs a sample survey. What it
-//! writes, and which status it ends with, is fixed by the words and the source's bytes; it fails only where a count of faults rose.
+//! `command` does what the program's words say over any source and sink: it runs a script by `run_script`, desks at once and
+//! eliminators beside them, runs a sample survey beside eliminators, or does what `plain_command` does, which waits for nobody: it checks a file of claims or the result of a
+//! survey, copies a result into the second format, ranks the alternatives of a table, or runs a sample survey. What is written, and
+//! with which status a command ends, is fixed by the words and the source's bytes, but for the replies of a run, each of which is
+//! right in the one journal of its respondent's survey; a command fails only where a count of faults rose.
 //!
 //! Inside: `rank_input` reads a definition line, a values line and a table and ranks it, by the names that `survey_names` gives;
-//! `rank_texts` has the texts that answer it, and `sample_texts` the line of a sample survey.
+//! `rank_texts` has the texts that answer it, and `sample_texts` the line of a sample survey. `script_runs` runs a script, and
+//! `script_texts` writes the replies to its lines.
 #![tactic(auto)]
 
-mod command;
+mod commands;
+mod plain_commands;
 mod rank_input;
 mod rank_texts;
+mod sample_runs;
 mod sample_texts;
+mod script_runs;
+mod script_texts;
 mod survey_names;
 
-pub use command::plain_command;
+pub use commands::{Ended, command};
+pub use plain_commands::plain_command;
+pub use script_runs::{Stop, run_script};
 
 #[cfg(test)]
 mod tests;

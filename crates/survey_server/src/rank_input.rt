@@ -1,7 +1,8 @@
 //! What is to be ranked: a definition line, a values line and a table.
-ghost use Rattle.std.specs.Prelude.{◌≡◌, Ok, Err, Some, true, IfErr, IfOk, IfSome};
+ghost use Rattle.std.specs.Prelude.{◌≡◌, Ok, Err, Some, true, IfErr, IfOk, IfSome, OnOk};
 ghost use Rattle.edges.specs.Faults.{CountsFaults};
 ghost use Rattle.edges.specs.Lines.{KeepsLimits, ahead};
+ghost use Rattle.edges.specs.Told.{IsAtEnd};
 ghost use Rattle.ranking.specs.declared.stops.RankStop.TheVariants.{NoMemory as NoMemoryStop, ReadFault as ReadFaultStop};
 ghost use Rattle.survey_server.specs.declared.rank_input.RankRefusal.TheVariants.{Stopped as StoppedBy};
 ghost use Rattle.survey_server.specs.RankInput.{IsDefinitionRefusal, IsToldInput, IsUnderRanking, LineIs, ReadsDefinition};
@@ -39,6 +40,7 @@ impl From<NoMemory> for RankRefusal {
 /// Ranks the table that follows the two lines of the source.
 pub(crate) fn rank_input<S: Source>(alloc: Global, source: &mut S) -> Result<Ranked, RankRefusal>
     ensures ranked { IsToldInput (S.left source.old) result }
+    ensures ended { OnOk result (IsAtEnd (S.left source.new)) }
     ensures faults { CountsFaults (result ≡ Err (RankRefusal.Stopped RankStop.ReadFault)) (S.faults source.old) (S.faults source.new) }
 {
     let mut lines = Lines::reserve(alloc, MAX_DEFINITION)?;
@@ -84,6 +86,7 @@ fn rank_under<S: Source>(
 ) -> Result<Ranked, RankRefusal>
     requires { lines.old.longest ≡ MAX_VALUES }
     ensures ranked { IfSome (ahead lines.old (S.left source.old)) (λ text. IsUnderRanking definition text result) }
+    ensures ended { OnOk result (IsAtEnd (S.left source.new)) }
     ensures faults { CountsFaults (result ≡ Err (RankRefusal.Stopped RankStop.ReadFault)) (S.faults source.old) (S.faults source.new) }
 {
     let names = SurveyNames { definition };

@@ -15,7 +15,7 @@ use ranking::{RankStop, Ranked};
 use std::alloc::Global;
 
 /// The room for a line that answers words or a refusal.
-pub(crate) const ROOM: u32 = 64;
+pub(crate) const ROOM: u32 = 256;
 
 /// The header and the record of each alternative.
 pub(crate) fn ranking_text_of(alloc: Global, ranked: &Ranked) -> Result<Vec<u8>, NoMemory>
@@ -94,7 +94,7 @@ pub(crate) fn add_refusal(text: &mut Text, refusal: RankRefusal)
 }
 
 /// Adds the line of a first line that is no definition.
-fn add_fault(text: &mut Text, fault: DefinitionFault)
+pub(crate) fn add_fault(text: &mut Text, fault: DefinitionFault)
     requires empty { text.old.bytes ≡ [] }
     requires room { text.old.room ≡ ROOM }
     ensures { text.new.bytes ≡ definition_line fault }

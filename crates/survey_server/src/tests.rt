@@ -1,13 +1,19 @@
 mod loading;
 mod ranks;
 mod results;
+mod sample_runs;
 mod samples;
+mod scripts;
 
 use crate::plain_command;
 use edges::{MemSink, MemSource, QuietSink, QuietSource};
 use std::alloc::Global;
 use std::process::Abort;
 use std::test::Fail;
+
+/// The line that words of no command get.
+const USAGE: &[u8] =
+    b"usage: paprika check | migrate | rank | sample SEED SHAPE | run [--eliminators N] [--sample SEED --shape SHAPE]\n";
 
 /// Files after their first two lines, with what `check` writes of them.
 const AFTER_MODEL: [(&[u8], &[u8]); 24] = [
@@ -297,11 +303,9 @@ fn ends_fail_at_once(rt: HostRuntime) -> Result<(), Fail> {
 /// Expects that the words are those of no command.
 fn expect_usage(rt: &impl Abort, alloc: Global, words: &[String]) -> Result<(), Fail> {
     let mut source = QuietSource::new(alloc, b"")?;
-    let mut sink = QuietSink::new(alloc, 64)?;
+    let mut sink = QuietSink::new(alloc, 256)?;
     assert_eq!(rt; plain_command(alloc, words, &mut source, &mut sink), 2);
-    assert!(rt;
-        sink.bytes() == b"usage: paprika check | migrate | rank | sample SEED SHAPE\n".as_slice()
-    );
+    assert!(rt; sink.bytes() == USAGE);
     Ok(())
 }
 

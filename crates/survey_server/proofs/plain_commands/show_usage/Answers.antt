@@ -1,7 +1,7 @@
 use Rattle.std.proofs.Common.{◌≡◌, [], ap, refl, ◌∙◌, inl}
 use Rattle.edges.specs.Text.{TextView}
 use Rattle.survey_server.specs.Command.{usage_line}
-use Rattle.survey_server.proofs.command.show_usage.Goals as goal
+use Rattle.survey_server.proofs.plain_commands.show_usage.Goals as goal
 
 pub returns-clause-usage : goal.returns-clause-usage
 returns-clause-usage g c =

@@ -2,7 +2,7 @@ ghost use Rattle.std.specs.Prelude.{◌≡◌, ◌≢◌, ◌↔◌, ◌⊎◌, 
 ghost use Rattle.edges.specs.Faults.{CountsFaults, HasRisen};
 ghost use Rattle.survey_words.specs.Shapes.{IsShape};
 ghost use Rattle.survey_words.specs.declared.shapes.Shape.{Shape};
-ghost use Rattle.survey_server.specs.Command.{IsCheck, IsMigrate, IsRank, IsSampleCommand, IsNoCommand, IsModelShape, verdict_line, Writes, Answers, AnswersRefusal, ChecksFile, MigratesFile, RanksTable, RefusesModel, SamplesModel, SamplesShape, IsWorthAnswer, IsValidFile, IsValidResult, IsRankable, ShowsUsage};
+ghost use Rattle.survey_server.specs.Command.{IsCheck, IsMigrate, IsRank, IsSampleCommand, IsNoCommand, IsModelShape, verdict_line, Writes, Answers, AnswersRefusal, ChecksFile, MigratesFile, RanksTable, RefusesModel, SamplesModel, SamplesShape, WritesSummary, IsWorthAnswer, IsValidFile, IsValidResult, IsRankable, ShowsUsage};
 
 use crate::rank_input::{RankRefusal, rank_input};
 use crate::rank_texts::{ROOM, add_model_fault, add_refusal, ranking_text_of};
@@ -12,27 +12,28 @@ use edges::{Sink, Source, Text, put_bytes};
 use itoa::Buffer;
 use ranking::RankStop;
 use result_file::{Checked, check_result, migrate_result};
-use sample_survey::solo_sample;
+use sample_survey::{Summary, solo_sample};
 use std::alloc::Global;
 use survey_words::{Command, Shape, read_words};
 
 /// The line that words of no command get.
-const USAGE: &[u8] = b"usage: paprika check | migrate | rank | sample SEED SHAPE\n";
+const USAGE: &[u8] =
+    b"usage: paprika check | migrate | rank | sample SEED SHAPE | run [--eliminators N] [--sample SEED --shape SHAPE]\n";
 
 /// The statuses that a command ends with.
-const DONE: u8 = 0;
+pub(crate) const DONE: u8 = 0;
 
-const REFUSED: u8 = 1;
+pub(crate) const REFUSED: u8 = 1;
 
 const USAGE_STATUS: u8 = 2;
 
-const READ_FAULT: u8 = 3;
+pub(crate) const READ_FAULT: u8 = 3;
 
-const WRITE_FAULT: u8 = 4;
+pub(crate) const WRITE_FAULT: u8 = 4;
 
-const NO_MEMORY: u8 = 5;
+pub(crate) const NO_MEMORY: u8 = 5;
 
-/// Does what the words say, and returns the status.
+/// Does what the words say, where it waits for nobody, and returns the status.
 pub fn plain_command<S: Source, K: Sink>(
     alloc: Global,
     words: &[String],
@@ -41,7 +42,7 @@ pub fn plain_command<S: Source, K: Sink>(
 ) -> u8
     ensures check { IsCheck words.now → ChecksFile (S.left source.old) (S.left source.new) (K.written sink.old) (K.written sink.new) result }
     ensures migrate { IsMigrate words.now → MigratesFile (S.left source.old) (K.written sink.old) (K.written sink.new) result }
-    ensures rank { IsRank words.now → RanksTable (S.left source.old) (K.written sink.old) (K.written sink.new) result }
+    ensures rank { IsRank words.now → RanksTable (S.left source.old) (S.left source.new) (K.written sink.old) (K.written sink.new) result }
     ensures sample { (seed : ℕ) (shape : Shape) → IsSampleCommand words.now seed shape
         → SamplesShape seed shape (K.written sink.old) (K.written sink.new) result }
     ensures usage { IsNoCommand words.now → ShowsUsage (K.written sink.old) (K.written sink.new) result }
@@ -120,7 +121,7 @@ fn migrate<S: Source, K: Sink>(alloc: Global, source: &mut S, sink: &mut K) -> u
 
 /// Ranks the alternatives of the table of the source.
 fn rank_table<S: Source, K: Sink>(alloc: Global, source: &mut S, sink: &mut K) -> u8
-    ensures ranked { RanksTable (S.left source.old) (K.written sink.old) (K.written sink.new) result }
+    ensures ranked { RanksTable (S.left source.old) (S.left source.new) (K.written sink.old) (K.written sink.new) result }
     ensures read_fault { CountsFaults (result ≡ 3) (S.faults source.old) (S.faults source.new) }
     ensures write_fault { CountsFaults (result ≡ 4) (K.faults sink.old) (K.faults sink.new) }
 {
@@ -156,18 +157,32 @@ fn sample_model<K: Sink>(alloc: Global, seed: u32, shape: &Shape, model: &Model,
     ensures no_read_fault { result ≢ 3 }
     ensures write_fault { CountsFaults (result ≡ 4) (K.faults sink.old) (K.faults sink.new) }
 {
-    let summary = match solo_sample(alloc, seed, model) {
-        Ok(summary) => summary,
-        Err(_) => return NO_MEMORY,
-    };
-    match sample_line_of(alloc, seed, shape, &summary) {
+    match solo_sample(alloc, seed, model) {
+        Ok(summary) => write_summary(alloc, seed, shape, &summary, sink),
+        Err(_) => NO_MEMORY,
+    }
+}
+
+/// Writes the line of the sample survey of a seed and a shape.
+pub(crate) fn write_summary<K: Sink>(
+    alloc: Global,
+    seed: u32,
+    shape: &Shape,
+    summary: &Summary,
+    sink: &mut K,
+) -> u8
+    ensures written { WritesSummary seed shape.now summary.now (K.written sink.old) (K.written sink.new) result }
+    ensures no_read_fault { result ≢ 3 }
+    ensures write_fault { CountsFaults (result ≡ 4) (K.faults sink.old) (K.faults sink.new) }
+{
+    match sample_line_of(alloc, seed, shape, summary) {
         Ok(line) => write(line.as_slice(), DONE, sink),
         Err(_) => NO_MEMORY,
     }
 }
 
 /// Answers a shape that makes no model.
-fn refuse_shape<K: Sink>(alloc: Global, fault: ModelFault, sink: &mut K) -> u8
+pub(crate) fn refuse_shape<K: Sink>(alloc: Global, fault: ModelFault, sink: &mut K) -> u8
     ensures refused { RefusesModel fault (K.written sink.old) (K.written sink.new) result }
     ensures no_read_fault { result ≢ 3 }
     ensures write_fault { CountsFaults (result ≡ 4) (K.faults sink.old) (K.faults sink.new) }
@@ -243,7 +258,7 @@ fn add_line(text: &mut Text, verdict: Checked)
 }
 
 /// Writes the text, and returns the status or that of a sink that failed.
-fn write<K: Sink>(text: &[u8], status: u8, sink: &mut K) -> u8
+pub(crate) fn write<K: Sink>(text: &[u8], status: u8, sink: &mut K) -> u8
     requires status { status ≢ 4 }
     ensures written { Writes text.now status (K.written sink.old) (K.written sink.new) result }
     ensures either { (result ≡ status) ⊎ (result ≡ 4) }
