@@ -1,0 +1,120 @@
+#!/usr/bin/env python3
+"""Runs each command that a document shows, and compares what it writes with what the document shows. Looks that
+docs/TROUBLESHOOTING.md has each refusal of the program once.
+
+A command stands in a block of ```console, after `$ `; the lines up to the next command or the end of the block are what it writes,
+standard output and then standard error. Commands of one document run in order in one scratch copy of the repository's top, with the
+proved program. A command that needs a tool which isn't installed is counted as skipped, by name.
+
+usage: documents.py [DOCUMENT..]
+"""
+import os
+import pathlib
+import re
+import shutil
+import subprocess
+import sys
+import tempfile
+
+ROOT = pathlib.Path(__file__).resolve().parent.parent
+
+# The proved program, which all checks leave here.
+PROGRAM = ROOT / "crates/paprika/out/paprika"
+
+# Tools that a document may use, and a reader may have to install.
+TOOLS = ["nc", "curl", "git", "tmux"]
+
+SECONDS = 60
+
+
+def commands_of(text):
+    """The commands of a document, each with what it writes."""
+    for block in re.findall(r"^```console\n(.*?)^```$", text, re.MULTILINE | re.DOTALL):
+        for part in re.split(r"^\$ ", block, flags=re.MULTILINE)[1:]:
+            command, _, shown = part.partition("\n")
+            while command.endswith("\\"):
+                line, _, shown = shown.partition("\n")
+                command += "\n" + line
+            yield command, shown
+
+
+def missing_tool(command):
+    words = re.findall(r"[\w./-]+", command)
+    return next((tool for tool in TOOLS if tool in words and not shutil.which(tool)), None)
+
+
+def run(command, folder):
+    """What the command writes, or that it took too long."""
+    try:
+        done = subprocess.run(["sh", "-c", command], cwd=folder, stdin=subprocess.DEVNULL, stdout=subprocess.PIPE,
+                              stderr=subprocess.PIPE, timeout=SECONDS)
+    except subprocess.TimeoutExpired:
+        return f"(nothing after {SECONDS} seconds)\n"
+    return done.stdout.decode() + done.stderr.decode()
+
+
+def scratch(folder):
+    """A copy of what commands may read or write; the program stands in it as it was built."""
+    shutil.copytree(ROOT / "examples", folder / "examples")
+    os.symlink(ROOT / "crates", folder / "crates")
+    (folder / "paprika").write_text(f'#!/bin/sh\nexec "{PROGRAM}" "$@"\n')
+    (folder / "paprika").chmod(0o755)
+
+
+def name_of(document):
+    return os.path.relpath(document, ROOT)
+
+
+def check(document, tally):
+    with tempfile.TemporaryDirectory() as made:
+        folder = pathlib.Path(made)
+        scratch(folder)
+        for command, shown in commands_of(document.read_text()):
+            tool = missing_tool(command)
+            if tool:
+                print(f"{name_of(document)}: skipped, since {tool} isn't installed: {command}")
+                tally["skipped"] += 1
+                continue
+            written = run(command, folder)
+            if written == shown:
+                tally["passed"] += 1
+            else:
+                print(f"{name_of(document)}: $ {command}\nshows:\n{shown}writes:\n{written}")
+                tally["failed"] += 1
+
+
+def refusals():
+    """How each refusal begins, by the sources that write them."""
+    def found(file, pattern, before=""):
+        return [before + word for word in re.findall(pattern, (ROOT / "crates" / file).read_text())]
+    return [
+        *found("survey_server/src/rank_texts.rt", r'b"((?:definition|rank) [a-z]+)'),
+        *found("survey_server/src/commands.rt", r'ScriptPart::\w+ => b"(\w+)"', "script LINE "),
+        *found("result_file/src/verdicts.rt", r'Part::\w+ => b"(\w+)"', "invalid LINE "),
+        *found("survey_server/src/plain_commands.rt", r'b"(unfinished) "'),
+        *found("survey_server/src/plain_commands.rt", r'b"(usage:) '),
+    ]
+
+
+def check_refusals(tally):
+    rows = re.findall(r"^\| `([^`]*)`", (ROOT / "docs/TROUBLESHOOTING.md").read_text(), re.MULTILINE)
+    for refusal in refusals():
+        count = sum(row == refusal or row.startswith(refusal + " ") for row in rows)
+        tally["passed" if count == 1 else "failed"] += 1
+        if count != 1:
+            print(f"docs/TROUBLESHOOTING.md has {count} rows for {refusal}")
+
+
+def main():
+    documents = [pathlib.Path(name) for name in sys.argv[1:]] or [ROOT / "README.md", *sorted((ROOT / "docs").glob("*.md")), *sorted((ROOT / "examples").glob("*/README.md"))]
+    tally = {"passed": 0, "failed": 0, "skipped": 0}
+    if not PROGRAM.exists():
+        subprocess.run([ROOT / "paprika", "check"], stdin=subprocess.DEVNULL, stdout=subprocess.DEVNULL)
+    for document in documents:
+        check(document, tally)
+    check_refusals(tally)
+    print(f"{tally['passed']} passed, {tally['failed']} failed, {tally['skipped']} skipped")
+    sys.exit(bool(tally["failed"]))
+
+
+main()
