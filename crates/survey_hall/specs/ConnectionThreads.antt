@@ -1,8 +1,8 @@
 -- Connections that are being served, or were.
 use Rattle.std.specs.Prelude.{◌≡◌, ℕ, List, Option}
 use Rattle.json_forms.specs.DefinitionViews.{DefinitionView}
-use Rattle.survey_hall.specs.declared.connections.Connection.{Connection}
-use Rattle.survey_hall.specs.declared.connections.Connection.TheVariants.{Thread, Done}
+use Rattle.survey_hall.specs.declared.connection_threads.Connection.{Connection}
+use Rattle.survey_hall.specs.declared.connection_threads.Connection.TheVariants.{Thread, Done}
 use Rattle.survey_hall.specs.Connections.{WasServed}
 
 module _ {I O : Type 0} (left : I → Option (List ℕ)) (read_faults : I → ℕ) (written : O → Option (List ℕ)) (write_faults : O → ℕ) where

@@ -3,10 +3,9 @@ pub mod Admissions
 pub mod ConnectionViews
 pub mod Greetings
 pub mod Visits
-pub mod Services
 pub mod Connections
 pub mod ConnectionThreads
-pub mod Serves
+pub mod Serving
 pub mod Rooms
 pub mod EliminatorSeats
 pub mod EliminatorBenches

@@ -1,6 +1,6 @@
 -- What a call that serves connections works with.
 use Rattle.std.specs.Prelude.{◌≡◌, ℕ, ◌≤◌, [], vec_capacity}
-use Rattle.survey_hall.specs.declared.serves.Rooms.{Rooms}
+use Rattle.survey_hall.specs.declared.serving.Rooms.{Rooms}
 
 module _ {I O : Type 0} where
   -- there is room for so many connections and eliminators, and none of them yet

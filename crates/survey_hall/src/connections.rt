@@ -1,118 +1,111 @@
-//! Connections that are served in threads.
-ghost use Rattle.std.specs.Prelude.{ℕ, List, Option};
-ghost use Rattle.std.specs.Thread.{IsSync};
-ghost use Rattle.json_forms.specs.DefinitionViews.{DefinitionView};
-ghost use Rattle.survey_hall.specs.Connections.{WasServed};
-ghost use Rattle.survey_hall.specs.ConnectionThreads.{ServesFor};
+//! Serves connections.
+ghost use Rattle.std.specs.Prelude.{◌≡◌, ◌≤◌, ℕ, [], Some, OnErr, OnOk};
+ghost use Rattle.edges.specs.Faults.{CountsFaults, HasRisen};
+ghost use Rattle.edges.specs.Lines.{ahead};
+ghost use Rattle.edges.specs.Told.{Appends, AppendsPrefix, IsAtEnd};
+ghost use Rattle.session_protocol.specs.Sessions.{IsOverlong};
+ghost use Rattle.survey_hall.specs.ConnectionViews.{connection_view};
+ghost use Rattle.survey_hall.specs.Connections.{IsServed, IsServedToBye, IsWholeConnection, ServedBy, end_of_connection, refusal_text};
 
+use crate::greetings::{Greeting, greet};
 use crate::halls::Hall;
 use crate::served::Served;
-use crate::serving::serve_connection;
-use edges::{Gate, Sink, Source};
+use crate::texts::write_line;
+use edges::{Failed, Gate, Lines, Sink, Source, Text};
+use json_forms::{Reply, Word};
+use result_file::MAX_LINE;
 use session_protocol::SessionEnd;
 use std::alloc::Global;
-use std::mem;
-use std::snapshot::Snapshot;
 use std::sync::Wait;
-use std::sync::atomic::{AtomicBool, Ordering};
-use std::thread::{Promise, PromisedHandle, Scope, Threads};
 
-/// What the thread of a connection brings back, for contracts: that it was served over these ends.
-#[derive(Drop)]
-pub(crate) struct ConnectionPromise<I: Drop, O: Drop> {
-    hall: Snapshot<Hall>,
-    source: Snapshot<I>,
-    sink: Snapshot<O>,
-}
-
-impl<I: Source + Drop, O: Sink + Drop> Promise<Served> for ConnectionPromise<I, O> {
-    ghost use Rattle.survey_hall.specs.Connections.{WasServed};
-
-    ghost kept_by = { λ p served. WasServed I.left I.faults O.written O.faults p.hall.value.definition p.source.value p.sink.value served };
-}
-
-/// A connection that is being served, or was.
-#[derive(Drop)]
-pub(crate) enum Connection<I: Source + Drop, O: Sink + Drop> {
-    Thread(PromisedHandle<Served, ConnectionPromise<I, O>>),
-    Done(Served),
-}
-
-/// Serves a connection, and then raises the flag.
-fn serve_and_tell<R: Wait + Sync, I: Source + Drop, O: Sink + Drop, G: Gate>(
+/// Serves a connection: reads its hello, waits for the desk, welcomes and runs the session. The desk is free again afterwards.
+pub fn serve_connection<R: Wait + Sync, S: Source, K: Sink, G: Gate>(
     rt: &R,
     alloc: Global,
     hall: &Hall,
-    mut source: I,
-    mut sink: O,
-    over: &AtomicBool,
+    source: &mut S,
+    sink: &mut K,
     gate: &G,
 ) -> Served
-    ensures { WasServed I.left I.faults O.written O.faults hall.now.definition source sink result }
-{
-    let served = serve_connection(rt, alloc, hall, &mut source, &mut sink, gate);
-    over.store(true, Ordering::SeqCst);
-    served
-}
+    ensures served { IsServed hall.now.definition (connection_view (S.left source.old) (K.written sink.old))
+        (connection_view (S.left source.new) (K.written sink.new)) result }
+    ensures read_faults { CountsFaults (end_of_connection result ≡ Some SessionEnd.ReadFault) (S.faults source.old) (S.faults source.new) }
+    ensures write_faults { CountsFaults (end_of_connection result ≡ Some SessionEnd.WriteFault) (K.faults sink.old) (K.faults sink.new) }
 
-/// Serves a connection in a thread, or here where none can be made. The flag is raised when it was served.
-pub(crate) fn start_connection<
-    's,
-    E: 's,
-    R: Wait + Sync,
-    I: Source + Send + Drop + 's,
-    O: Sink + Send + Drop + 's,
-    G: Gate + Sync,
->(
-    scope: &Scope<'s, E>,
-    rt: &'s R,
-    alloc: Global,
-    hall: &'s Hall,
-    source: I,
-    sink: O,
-    over: &'s AtomicBool,
-    gate: &'s G,
-) -> Connection<I, O>
-    ensures { ServesFor I.left I.faults O.written O.faults hall.now.definition source sink result }
+    // Where no fault came, a hello that passes its tests is served up to its bye, or there was no memory.
+    ensures done { IsWholeConnection hall.now.definition (S.left source.old) → (¬ HasRisen (S.faults source.old) (S.faults source.new))
+        → (¬ HasRisen (K.faults sink.old) (K.faults sink.new)) → IsServedToBye result }
 {
-    let promise = ConnectionPromise {
-        hall: Snapshot::of(hall),
-        source: Snapshot::of(&source),
-        sink: Snapshot::of(&sink),
+    let Ok(mut lines) = Lines::reserve(alloc, MAX_LINE) else {
+        return Served::Early(SessionEnd::NoMemory);
     };
-    let task = move || -> Served
-        requires { IsSync R.row }
-        ensures { WasServed I.left I.faults O.written O.faults hall.entry.now.definition source sink result }
-    { serve_and_tell(rt, alloc, hall, source, sink, over, gate) };
-    match scope.spawn_with(promise, task) {
-        Ok(handle) => Connection::Thread(handle),
-        Err(refused) => Connection::Done((refused.value)()),
+    let Ok(mut text) = Text::reserve(alloc, MAX_LINE) else {
+        return Served::Early(SessionEnd::NoMemory);
+    };
+    serve_lines(rt, alloc, hall, &mut lines, &mut text, source, sink, gate)
+}
+
+/// Serves a connection by these lines, and a text for what is written.
+fn serve_lines<R: Wait + Sync, S: Source, K: Sink, G: Gate>(
+    rt: &R,
+    alloc: Global,
+    hall: &Hall,
+    lines: &mut Lines,
+    text: &mut Text,
+    source: &mut S,
+    sink: &mut K,
+    gate: &G,
+) -> Served
+    requires longest { lines.old.longest ≡ MAX_LINE }
+    requires empty { text.old.bytes ≡ [] }
+    requires room { MAX_LINE ≤ text.old.room }
+    ensures served { ServedBy hall.now.definition lines.new.kept
+        (connection_view (ahead lines.old (S.left source.old)) (K.written sink.old))
+        (connection_view (ahead lines.new (S.left source.new)) (K.written sink.new)) result }
+    ensures at_end { end_of_connection result ≡ Some SessionEnd.EndOfInput → IsAtEnd (ahead lines.new (S.left source.new)) }
+    ensures too_long { end_of_connection result ≡ Some SessionEnd.LineTooLong → IsOverlong lines.new.kept }
+    ensures read_faults { CountsFaults (end_of_connection result ≡ Some SessionEnd.ReadFault) (S.faults source.old) (S.faults source.new) }
+    ensures write_faults { CountsFaults (end_of_connection result ≡ Some SessionEnd.WriteFault) (K.faults sink.old) (K.faults sink.new) }
+{
+    match greet(alloc, hall.definition(), lines, source) {
+        Greeting::Admits(admitted) => {
+            let run = hall.run_at(rt, alloc, admitted, lines, text, source, sink, gate);
+            Served::Ran {
+                began: run.began,
+                front: run.front,
+                replies: run.counted.replies,
+                end: run.counted.end,
+            }
+        }
+        Greeting::Refuses(word) => match refuse(hall, word, text, sink) {
+            Ok(()) => Served::Refused(word),
+            Err(Failed) => Served::Early(SessionEnd::WriteFault),
+        },
+        Greeting::Ends(SessionEnd::LineTooLong) => match refuse(hall, Word::Line, text, sink) {
+            Ok(()) => Served::Early(SessionEnd::LineTooLong),
+            Err(Failed) => Served::Early(SessionEnd::WriteFault),
+        },
+        Greeting::Ends(end) => Served::Early(end),
     }
 }
 
-impl<I: Source + Drop, O: Sink + Drop> Connection<I, O> {
-    /// Waits until it was served.
-    pub(crate) fn finish<R: Threads>(self, rt: &R) -> Served
-        ensures { (definition : DefinitionView) (source : I) (sink : O) → ServesFor I.left I.faults O.written O.faults definition source sink self
-            → WasServed I.left I.faults O.written O.faults definition source sink result }
-    {
-        match self {
-            Connection::Thread(handle) => handle.join(rt),
-            Connection::Done(served) => served,
-        }
-    }
-
-    /// Waits until it was served, and keeps what it was served. Its thread is gone then.
-    pub(crate) fn settle<R: Threads>(&mut self, rt: &R)
-        ensures { (definition : DefinitionView) (source : I) (sink : O) → ServesFor I.left I.faults O.written O.faults definition source sink self.old
-            → ServesFor I.left I.faults O.written O.faults definition source sink self.new }
-    {
-        let was = mem::replace(self, Connection::Done(Served::Early(SessionEnd::NoMemory)));
-        *self = Connection::Done(was.finish(rt));
-    }
-
-    /// Whether it has a thread.
-    pub(crate) fn has_thread(&self) -> bool {
-        matches!(self, Connection::Thread(_))
-    }
+/// Writes the line of a refusal.
+///
+/// # Errors
+///
+/// The sink failed; some first bytes of the line are out.
+fn refuse<K: Sink>(hall: &Hall, word: Word, text: &mut Text, sink: &mut K) -> Result<(), Failed>
+    requires empty { text.old.bytes ≡ [] }
+    requires room { MAX_LINE ≤ text.old.room }
+    ensures written { OnOk result (Appends (K.written sink.old) (K.written sink.new) (refusal_text word)) }
+    ensures quiet { OnOk result (K.faults sink.new ≡ K.faults sink.old) }
+    ensures prefix { OnErr result (AppendsPrefix (K.written sink.old) (K.written sink.new) (refusal_text word)) }
+    ensures failed { OnErr result (HasRisen (K.faults sink.old) (K.faults sink.new)) }
+{
+    write_line(
+        &Reply::Refused(word),
+        &hall.definition().model(),
+        text,
+        sink,
+    )
 }

@@ -10,24 +10,24 @@
 //! Memory for surveys, desks and eliminators is taken by `Hall::build`. A connection takes that of its lines before its desk is got,
 //! and then only what a message needs while it is read and what a withdrawal may need; `serve` takes that of its lists first.
 //!
-//! Inside: `greetings` reads and tests a first line, `desk_seats` and `eliminator_seats` have what rests behind a lock, `connections`
-//! the threads.
+//! Inside: `greetings` reads and tests a first line, `desk_seats` and `eliminator_seats` have what rests behind a lock, and
+//! `connection_threads` has the threads of `serve`.
 #![tactic(auto)]
 
+mod connection_threads;
 mod connections;
 mod desk_seats;
 mod eliminator_seats;
 mod greetings;
 mod halls;
 mod served;
-mod serves;
 mod serving;
 mod texts;
 
+pub use connections::serve_connection;
 pub use halls::Hall;
 pub use served::Served;
-pub use serves::{MAX_CONNECTIONS, ServeEnd, ServeStop, serve};
-pub use serving::serve_connection;
+pub use serving::{MAX_CONNECTIONS, ServeEnd, ServeStop, serve};
 
 #[cfg(test)]
 mod tests;

@@ -1,111 +1,430 @@
-//! Serves connections.
-ghost use Rattle.std.specs.Prelude.{◌≡◌, ◌≤◌, ℕ, [], Some, OnErr, OnOk};
+//! Serves connections from a door, beside eliminators.
+ghost use Rattle.std.specs.Prelude.{◌≡◌, ◌≤◌, ◌<◌, ◌+◌, ◌-◌, ℕ, List, Option, [], Err, IfOk, OnErr, OnOk, Some, length, slice_get, vec_len, vec_capacity};
+ghost use Rattle.std.specs.Thread.{IsSync};
 ghost use Rattle.edges.specs.Faults.{CountsFaults, HasRisen};
-ghost use Rattle.edges.specs.Lines.{ahead};
-ghost use Rattle.edges.specs.Told.{Appends, AppendsPrefix, IsAtEnd};
-ghost use Rattle.session_protocol.specs.Sessions.{IsOverlong};
-ghost use Rattle.survey_hall.specs.ConnectionViews.{connection_view};
-ghost use Rattle.survey_hall.specs.Services.{IsServed, IsServedToBye, IsWholeConnection, ServedBy, end_of_service, refusal_text};
+ghost use Rattle.json_forms.specs.DefinitionViews.{DefinitionView};
+ghost use Rattle.survey_hall.specs.declared.serving.TheConstants.{MAX_CONNECTIONS};
+ghost use Rattle.survey_hall.specs.Rooms.{HasRooms};
+ghost use Rattle.survey_hall.specs.Serving.{HasAccepted, HasServed, ServedEach, ServesEach};
 
-use crate::greetings::{Greeting, greet};
+use crate::connection_threads::{Connection, start_connection};
+use crate::eliminator_seats::{EliminatorSeat, Start};
 use crate::halls::Hall;
 use crate::served::Served;
-use crate::texts::write_line;
-use edges::{Failed, Gate, Lines, Sink, Source, Text};
-use json_forms::{Reply, Word};
-use result_file::MAX_LINE;
-use session_protocol::SessionEnd;
+use edges::{Door, Failed, Gate, Sink, Source};
+use json_forms::NoMemory;
 use std::alloc::Global;
 use std::sync::Wait;
+use std::sync::atomic::{AtomicBool, Ordering};
+use std::thread;
+use std::thread::{JoinHandle, Scope, Threads};
 
-/// Serves a connection: reads its hello, waits for the desk, welcomes and runs the session. The desk is free again afterwards.
-pub fn serve_connection<R: Wait + Sync, S: Source, K: Sink, G: Gate>(
-    rt: &R,
-    alloc: Global,
-    hall: &Hall,
-    source: &mut S,
-    sink: &mut K,
-    gate: &G,
-) -> Served
-    ensures served { IsServed hall.now.definition (connection_view (S.left source.old) (K.written sink.old))
-        (connection_view (S.left source.new) (K.written sink.new)) result }
-    ensures read_faults { CountsFaults (end_of_service result ≡ Some SessionEnd.ReadFault) (S.faults source.old) (S.faults source.new) }
-    ensures write_faults { CountsFaults (end_of_service result ≡ Some SessionEnd.WriteFault) (K.faults sink.old) (K.faults sink.new) }
+/// The most connections that a call serves.
+pub const MAX_CONNECTIONS: u32 = 65_536;
 
-    // Where no fault came, a hello that passes its tests is served up to its bye, or there was no memory.
-    ensures done { IsWholeConnection hall.now.definition (S.left source.old) → (¬ HasRisen (S.faults source.old) (S.faults source.new))
-        → (¬ HasRisen (K.faults sink.old) (K.faults sink.new)) → IsServedToBye result }
-{
-    let Ok(mut lines) = Lines::reserve(alloc, MAX_LINE) else {
-        return Served::Early(SessionEnd::NoMemory);
-    };
-    let Ok(mut text) = Text::reserve(alloc, MAX_LINE) else {
-        return Served::Early(SessionEnd::NoMemory);
-    };
-    serve_lines(rt, alloc, hall, &mut lines, &mut text, source, sink, gate)
+/// Why a hall stopped serving.
+#[derive(Clone, Copy, PartialEq, Eq, Debug)]
+pub enum ServeStop {
+    /// The door failed; the connections that it gave before were served.
+    DoorFault,
+    /// Out of memory: nothing was accepted.
+    NoMemory,
 }
 
-/// Serves a connection by these lines, and a text for what is written.
-fn serve_lines<R: Wait + Sync, S: Source, K: Sink, G: Gate>(
-    rt: &R,
-    alloc: Global,
-    hall: &Hall,
-    lines: &mut Lines,
-    text: &mut Text,
-    source: &mut S,
-    sink: &mut K,
-    gate: &G,
-) -> Served
-    requires longest { lines.old.longest ≡ MAX_LINE }
-    requires empty { text.old.bytes ≡ [] }
-    requires room { MAX_LINE ≤ text.old.room }
-    ensures served { ServedBy hall.now.definition lines.new.kept
-        (connection_view (ahead lines.old (S.left source.old)) (K.written sink.old))
-        (connection_view (ahead lines.new (S.left source.new)) (K.written sink.new)) result }
-    ensures at_end { end_of_service result ≡ Some SessionEnd.EndOfInput → IsAtEnd (ahead lines.new (S.left source.new)) }
-    ensures too_long { end_of_service result ≡ Some SessionEnd.LineTooLong → IsOverlong lines.new.kept }
-    ensures read_faults { CountsFaults (end_of_service result ≡ Some SessionEnd.ReadFault) (S.faults source.old) (S.faults source.new) }
-    ensures write_faults { CountsFaults (end_of_service result ≡ Some SessionEnd.WriteFault) (K.faults sink.old) (K.faults sink.new) }
-{
-    match greet(alloc, hall.definition(), lines, source) {
-        Greeting::Admits(admitted) => {
-            let run = hall.run_at(rt, alloc, admitted, lines, text, source, sink, gate);
-            Served::Ran {
-                began: run.began,
-                front: run.front,
-                replies: run.counted.replies,
-                end: run.counted.end,
-            }
-        }
-        Greeting::Refuses(word) => match refuse(hall, word, text, sink) {
-            Ok(()) => Served::Refused(word),
-            Err(Failed) => Served::Early(SessionEnd::WriteFault),
-        },
-        Greeting::Ends(SessionEnd::LineTooLong) => match refuse(hall, Word::Line, text, sink) {
-            Ok(()) => Served::Early(SessionEnd::LineTooLong),
-            Err(Failed) => Served::Early(SessionEnd::WriteFault),
-        },
-        Greeting::Ends(end) => Served::Early(end),
+/// What connections were served, in the order in which they were accepted.
+#[derive(Drop)]
+pub struct ServeEnd {
+    pub(crate) list: Vec<Served>,
+    ghost few: { vec_len list ≤ MAX_CONNECTIONS },
+}
+
+impl ServeEnd {
+    /// How many connections were accepted.
+    pub fn count(&self) -> u32
+        ensures { result ≡ vec_len self.now.list }
+    {
+        self.list.len() as u32
+    }
+
+    /// What the connection with this number was served, counted from 1.
+    pub fn served(&self, number: u32) -> &Served
+        requires { (1 ≤ number) × (number ≤ vec_len self.now.list) }
+        ensures { slice_get self.now.list.items (number - 1) ≡ Some result.now }
+    {
+        &self.list[number as usize - 1]
     }
 }
 
-/// Writes the line of a refusal.
+/// What a call works with: all of it is taken before anything is accepted.
+#[derive(Drop)]
+struct Rooms<I: Source + Drop, O: Sink + Drop> {
+    connections: Vec<Connection<I, O>>,
+    served: Vec<Served>,
+    working: Vec<(usize, JoinHandle<EliminatorSeat>)>,
+}
+
+/// Flags that are not raised.
+fn flags(alloc: Global, count: usize) -> Result<Vec<AtomicBool>, NoMemory>
+    ensures { IfOk result (λ flags. vec_len flags ≡ count) }
+{
+    let mut flags = Vec::with_capacity(alloc, count)?;
+    for _place in 0..count {
+        flags.push_reserved(AtomicBool::new(false));
+    }
+    Ok(flags)
+}
+
+/// For each eliminator, that nothing is known yet.
+fn starts(alloc: Global, count: usize) -> Result<Vec<Start>, NoMemory>
+    ensures { IfOk result (λ starts. vec_len starts ≡ count) }
+{
+    let mut starts = Vec::with_capacity(alloc, count)?;
+    for _place in 0..count {
+        starts.push_reserved(Start::new());
+    }
+    Ok(starts)
+}
+
+/// Serves connections from the door, a thread each, beside eliminators.
 ///
 /// # Errors
 ///
-/// The sink failed; some first bytes of the line are out.
-fn refuse<K: Sink>(hall: &Hall, word: Word, text: &mut Text, sink: &mut K) -> Result<(), Failed>
-    requires empty { text.old.bytes ≡ [] }
-    requires room { MAX_LINE ≤ text.old.room }
-    ensures written { OnOk result (Appends (K.written sink.old) (K.written sink.new) (refusal_text word)) }
-    ensures quiet { OnOk result (K.faults sink.new ≡ K.faults sink.old) }
-    ensures prefix { OnErr result (AppendsPrefix (K.written sink.old) (K.written sink.new) (refusal_text word)) }
-    ensures failed { OnErr result (HasRisen (K.faults sink.old) (K.faults sink.new)) }
+/// The door failed; out of memory before anything was accepted.
+pub fn serve<
+    R: Threads + Wait + Sync,
+    I: Source + Send + Drop,
+    O: Sink + Send + Drop,
+    D: Door<In = I, Out = O>,
+    G: Gate + Sync,
+>(
+    rt: &R,
+    alloc: Global,
+    hall: &Hall,
+    door: &mut D,
+    connections: u32,
+    workers: u32,
+    gate: &G,
+) -> Result<ServeEnd, ServeStop>
+    requires connections { (1 ≤ connections) × (connections ≤ MAX_CONNECTIONS) }
+    requires workers { workers ≤ hall.now.workers }
+    ensures served { IfOk result (λ end. HasServed I.left I.faults O.written O.faults hall.now.definition (D.ends door.old) (D.ends door.new) end.list.items) }
+    ensures count { IfOk result (λ end. vec_len end.list ≡ connections) }
+    ensures faults { CountsFaults (result ≡ Err ServeStop.DoorFault) (D.faults door.old) (D.faults door.new) }
 {
-    write_line(
-        &Reply::Refused(word),
-        &hall.definition().model(),
-        text,
-        sink,
+    let (over, starts, rooms) = match take_memory(alloc, connections, workers) {
+        Ok(memory) => memory,
+        Err(_) => return Err(ServeStop::NoMemory),
+    };
+    let (door, end) = serve_within(rt, alloc, hall, door, &over, &starts, rooms, gate);
+    take_back(door);
+    end
+}
+
+/// Takes the memory of a call: flags of its connections and eliminators, and its lists.
+///
+/// # Errors
+///
+/// Out of memory.
+fn take_memory<I: Source + Drop, O: Sink + Drop>(
+    alloc: Global,
+    connections: u32,
+    workers: u32,
+) -> Result<(Vec<AtomicBool>, Vec<Start>, Rooms<I, O>), NoMemory>
+    ensures { IfOk result (λ memory. (vec_len memory.0 ≡ connections) × (vec_len memory.1 ≡ workers) × HasRooms memory.2 connections workers) }
+{
+    let over = flags(alloc, connections as usize)?;
+    let starts = starts(alloc, workers as usize)?;
+    let rooms = Rooms {
+        connections: Vec::with_capacity(alloc, connections as usize)?,
+        served: Vec::with_capacity(alloc, connections as usize)?,
+        working: Vec::with_capacity(alloc, workers as usize)?,
+    };
+    Ok((over, starts, rooms))
+}
+
+/// Does nothing, but this use of a reference that came back ties it to the one that was lent.
+fn take_back<T>(door: &mut T)
+    ensures { door.new ≡ door.old }
+{}
+
+/// Serves in a scope of threads. The door comes back.
+fn serve_within<
+    'd,
+    R: Threads + Wait + Sync,
+    I: Source + Send + Drop,
+    O: Sink + Send + Drop,
+    D: Door<In = I, Out = O>,
+    G: Gate + Sync,
+>(
+    rt: &R,
+    alloc: Global,
+    hall: &Hall,
+    door: &'d mut D,
+    over: &[AtomicBool],
+    starts: &[Start],
+    rooms: Rooms<I, O>,
+    gate: &G,
+) -> (&'d mut D, Result<ServeEnd, ServeStop>)
+    requires rooms { HasRooms rooms (length over.now) (length starts.now) }
+    requires few { length over.now ≤ MAX_CONNECTIONS }
+    ensures name { result.0.ghost_name ≡ door.entry.ghost_name }
+    ensures served { IfOk result.1 (λ end. HasServed I.left I.faults O.written O.faults hall.now.definition (D.ends door.old) (D.ends result.0.now) end.list.items) }
+    ensures count { IfOk result.1 (λ end. vec_len end.list ≡ length over.now) }
+    ensures faults { CountsFaults (result.1 ≡ Err ServeStop.DoorFault) (D.faults door.old) (D.faults result.0.now) }
+{
+    thread::scope(
+        thread::scope_env(),
+        rt,
+        |scope| -> (&mut D, Result<ServeEnd, ServeStop>)
+            requires { IsSync R.row × IsSync G.row × HasRooms rooms (length over.now) (length starts.now) × (length over.now ≤ MAX_CONNECTIONS) }
+            ensures name { result.0.ghost_name ≡ door.entry.ghost_name }
+            ensures served { IfOk result.1 (λ end. HasServed I.left I.faults O.written O.faults hall.entry.now.definition (D.ends door.entry.now) (D.ends result.0.now) end.list.items) }
+            ensures count { IfOk result.1 (λ end. vec_len end.list ≡ length over.entry.now) }
+            ensures faults { CountsFaults (result.1 ≡ Err ServeStop.DoorFault) (D.faults door.entry.now) (D.faults result.0.now) }
+        {
+            let end = serve_in(scope, rt, alloc, hall, door, over, starts, rooms, gate);
+            (door, end)
+        },
     )
+}
+
+/// Starts the eliminators, serves the connections, and then stops the eliminators.
+fn serve_in<
+    's,
+    E: 's,
+    R: Threads + Wait + Sync,
+    I: Source + Send + Drop + 's,
+    O: Sink + Send + Drop + 's,
+    D: Door<In = I, Out = O>,
+    G: Gate + Sync,
+>(
+    scope: &Scope<'s, E>,
+    rt: &'s R,
+    alloc: Global,
+    hall: &'s Hall,
+    door: &mut D,
+    over: &'s [AtomicBool],
+    starts: &'s [Start],
+    rooms: Rooms<I, O>,
+    gate: &'s G,
+) -> Result<ServeEnd, ServeStop>
+    requires rooms { HasRooms rooms (length over.now) (length starts.now) }
+    requires few { length over.now ≤ MAX_CONNECTIONS }
+    ensures served { IfOk result (λ end. HasServed I.left I.faults O.written O.faults hall.now.definition (D.ends door.old) (D.ends door.new) end.list.items) }
+    ensures count { IfOk result (λ end. vec_len end.list ≡ length over.now) }
+    ensures faults { CountsFaults (result ≡ Err ServeStop.DoorFault) (D.faults door.old) (D.faults door.new) }
+{
+    let Rooms {
+        mut connections,
+        served,
+        working,
+    } = rooms;
+    let working = start_eliminators(scope, rt, alloc, hall, starts, gate, working);
+    let takers = takers(rt, starts, &working);
+    hall.begin_jobs(takers);
+    let accepted = accept_all(scope, rt, alloc, hall, door, over, &mut connections, gate);
+    let served = finish_all(rt, connections, served);
+    hall.end_jobs(rt, takers);
+    join_eliminators(rt, hall, working);
+    match accepted {
+        Ok(()) => Ok(ServeEnd { list: served }),
+        Err(Failed) => Err(ServeStop::DoorFault),
+    }
+}
+
+/// Accepts a connection for each flag, and serves it in a thread.
+///
+/// # Errors
+///
+/// The door failed.
+fn accept_all<
+    's,
+    E: 's,
+    R: Threads + Wait + Sync,
+    I: Source + Send + Drop + 's,
+    O: Sink + Send + Drop + 's,
+    D: Door<In = I, Out = O>,
+    G: Gate + Sync,
+>(
+    scope: &Scope<'s, E>,
+    rt: &'s R,
+    alloc: Global,
+    hall: &'s Hall,
+    door: &mut D,
+    over: &'s [AtomicBool],
+    connections: &mut Vec<Connection<I, O>>,
+    gate: &'s G,
+) -> Result<(), Failed>
+    requires room { (connections.old.items ≡ []) × (length over.now ≤ vec_capacity connections.old) }
+    ensures accepted { HasAccepted I.left I.faults O.written O.faults hall.now.definition (D.ends door.old) (D.ends door.new) connections.new.items }
+    ensures count { OnOk result (vec_len connections.new ≡ length over.now) }
+    ensures few { vec_len connections.new ≤ length over.now }
+    ensures quiet { OnOk result (D.faults door.new ≡ D.faults door.old) }
+    ensures failed { OnErr result (HasRisen (D.faults door.old) (D.faults door.new)) }
+{
+    for place in 0..over.len() {
+        match door.accept() {
+            Ok((source, sink)) => {
+                settle_all(rt, connections, over);
+                connections.push_reserved(start_connection(
+                    scope,
+                    rt,
+                    alloc,
+                    hall,
+                    source,
+                    sink,
+                    &over[place],
+                    gate,
+                ));
+            }
+            Err(Failed) => return Err(Failed),
+        }
+    }
+    Ok(())
+}
+
+/// Ends the threads of connections that were served. A thread takes memory of the system until it is joined.
+fn settle_all<R: Threads, I: Source + Drop, O: Sink + Drop>(
+    rt: &R,
+    connections: &mut Vec<Connection<I, O>>,
+    over: &[AtomicBool],
+)
+    requires few { vec_len connections.old ≤ length over.now }
+    ensures each { (definition : DefinitionView) (accepted : List (I × O)) → ServesEach I.left I.faults O.written O.faults definition accepted connections.old.items
+        → ServesEach I.left I.faults O.written O.faults definition accepted connections.new.items }
+    ensures len { vec_len connections.new ≡ vec_len connections.old }
+    ensures room { vec_capacity connections.new ≡ vec_capacity connections.old }
+{
+    for place in 0..connections.len() {
+        let is_over = over[place].load(Ordering::SeqCst);
+        settle_at(rt, connections, place, is_over);
+    }
+}
+
+/// Ends the thread of a connection, if it has one and was served.
+fn settle_at<R: Threads, I: Source + Drop, O: Sink + Drop>(
+    rt: &R,
+    connections: &mut Vec<Connection<I, O>>,
+    place: usize,
+    is_over: bool,
+)
+    requires { place < vec_len connections.old }
+    ensures each { (definition : DefinitionView) (accepted : List (I × O)) → ServesEach I.left I.faults O.written O.faults definition accepted connections.old.items
+        → ServesEach I.left I.faults O.written O.faults definition accepted connections.new.items }
+    ensures len { vec_len connections.new ≡ vec_len connections.old }
+    ensures room { vec_capacity connections.new ≡ vec_capacity connections.old }
+{
+    if !is_over || !connections[place].has_thread() {
+        return;
+    }
+    connections[place].settle(rt);
+}
+
+/// Waits until all connections were served.
+fn finish_all<R: Threads, I: Source + Drop, O: Sink + Drop>(
+    rt: &R,
+    connections: Vec<Connection<I, O>>,
+    mut served: Vec<Served>,
+) -> Vec<Served>
+    requires room { (served.items ≡ []) × (vec_len connections ≤ vec_capacity served) }
+    ensures each { (definition : DefinitionView) (accepted : List (I × O)) → ServesEach I.left I.faults O.written O.faults definition accepted connections.items
+        → ServedEach I.left I.faults O.written O.faults definition accepted result.items }
+    ensures len { vec_len result ≡ vec_len connections }
+{
+    for connection in connections {
+        served.push_reserved(connection.finish(rt));
+    }
+    served
+}
+
+/// Starts the eliminators that no other call has at work.
+fn start_eliminators<'s, E: 's, R: Threads + Wait + Sync, G: Gate + Sync>(
+    scope: &Scope<'s, E>,
+    rt: &'s R,
+    alloc: Global,
+    hall: &'s Hall,
+    starts: &'s [Start],
+    gate: &'s G,
+    mut working: Vec<(usize, JoinHandle<EliminatorSeat>)>,
+) -> Vec<(usize, JoinHandle<EliminatorSeat>)>
+    requires { (working.items ≡ []) × (length starts.now ≤ vec_capacity working) }
+{
+    for place in 0..starts.len() {
+        if let Some(seat) = hall.take_eliminator(rt, place) {
+            match start_eliminator(scope, rt, alloc, seat, &starts[place], gate) {
+                Ok(handle) => working.push_reserved((place, handle)),
+                Err(seat) => hall.put_eliminator(rt, place, seat),
+            }
+        }
+    }
+    working
+}
+
+/// Starts an eliminator.
+///
+/// # Errors
+///
+/// No thread can be made: the eliminator comes back.
+fn start_eliminator<'s, E: 's, R: Wait + Sync, G: Gate + Sync>(
+    scope: &Scope<'s, E>,
+    rt: &'s R,
+    alloc: Global,
+    seat: EliminatorSeat,
+    start: &'s Start,
+    gate: &'s G,
+) -> Result<JoinHandle<EliminatorSeat>, EliminatorSeat> {
+    let task = move || -> EliminatorSeat
+        requires { IsSync R.row }
+    { begin(rt, alloc, seat, start, gate) };
+    match scope.spawn(task) {
+        Ok(handle) => Ok(handle),
+        Err(refused) => {
+            start.leave_out();
+            Err((refused.value)())
+        }
+    }
+}
+
+/// Lets an eliminator work, unless it was left out.
+fn begin<R: Wait + Sync, G: Gate>(
+    rt: &R,
+    alloc: Global,
+    seat: EliminatorSeat,
+    start: &Start,
+    gate: &G,
+) -> EliminatorSeat {
+    if start.is_left_out() {
+        seat
+    } else {
+        seat.work(rt, alloc, start, gate)
+    }
+}
+
+/// How many eliminators take jobs. Those that have a thread and no memory to begin don't.
+fn takers<R: Wait>(
+    rt: &R,
+    starts: &[Start],
+    working: &Vec<(usize, JoinHandle<EliminatorSeat>)>,
+) -> u64 {
+    let mut count = 0u64;
+    for (place, _) in working {
+        if let Some(start) = starts.get(*place) {
+            if start.has_begun(rt) {
+                count = count.saturating_add(1);
+            }
+        }
+    }
+    count
+}
+
+/// Waits for the eliminators, which were told to stop, and puts them to rest.
+fn join_eliminators<R: Threads + Wait>(
+    rt: &R,
+    hall: &Hall,
+    working: Vec<(usize, JoinHandle<EliminatorSeat>)>,
+) {
+    for (place, handle) in working {
+        let seat = handle.join(rt);
+        hall.put_eliminator(rt, place, seat);
+    }
 }

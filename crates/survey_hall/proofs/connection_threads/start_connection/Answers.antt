@@ -2,7 +2,7 @@ use denote.Exit.{no}
 use denote.Param.{param}
 use denote.Param.Send.{IsSend, IsSync, arg_send, param_send, sendable}
 use Rattle.survey_hall.proofs.TaskCrosses.{connection_task_send}
-use Rattle.survey_hall.proofs.connections.start_connection.Goals as goal
+use Rattle.survey_hall.proofs.connection_threads.start_connection.Goals as goal
 
 pub spawn_with-requires-send-F : goal.spawn_with-requires-send-F
 spawn_with-requires-send-F g c κs within =

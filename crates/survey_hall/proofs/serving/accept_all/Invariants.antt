@@ -1,7 +1,7 @@
 use Rattle.std.proofs.Common.{◌≡◌, ◌≤◌, length}
 use Rattle.std.specs.Prelude.{vec_len, vec_capacity}
-use Rattle.survey_hall.specs.Serves.{HasAccepted}
-use Rattle.survey_hall.proofs.serves.accept_all.Given as goal
+use Rattle.survey_hall.specs.Serving.{HasAccepted}
+use Rattle.survey_hall.proofs.serving.accept_all.Given as goal
 
 abbrev pub invariant-loop-place : goal.invariant-loop-place
 invariant-loop-place g l = record {

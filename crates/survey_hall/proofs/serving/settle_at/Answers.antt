@@ -1,8 +1,8 @@
 use Rattle.std.proofs.Common.{refl, rules, length}
 use Rattle.std.proofs.lemmas.Option.{slice_get_read}
 use Rattle.survey_hall.specs.ConnectionThreads.{ServesFor}
-use Rattle.survey_hall.proofs.ConnectionLemmas.{zip_set_second}
-use Rattle.survey_hall.proofs.serves.settle_at.Goals as goal
+use Rattle.survey_hall.proofs.ConnectionThreadLemmas.{zip_set_second}
+use Rattle.survey_hall.proofs.serving.settle_at.Goals as goal
 
 pub returns-clause-each : goal.returns-clause-each
 returns-clause-each g c = λ definition accepted serves.

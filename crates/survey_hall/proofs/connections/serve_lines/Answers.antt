@@ -1,7 +1,7 @@
 use Rattle.std.proofs.Common.{refl, inl, inr}
 use Rattle.std.proofs.lemmas.Option.{same_Some}
 use Rattle.json_forms.specs.declared.replies.Word.TheVariants.{Line}
-use Rattle.survey_hall.proofs.serving.serve_lines.Goals as goal
+use Rattle.survey_hall.proofs.connections.serve_lines.Goals as goal
 
 pub returns-in-Admits-clause-too_long : goal.returns-in-Admits-clause-too_long
 returns-in-Admits-clause-too_long g c = λ same. c.run_at-run.ensures.too_long (same_Some _ _ same)

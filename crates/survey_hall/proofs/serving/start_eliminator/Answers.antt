@@ -4,7 +4,7 @@ use denote.Param.Send.{IsSync, arg_send, param_send, sendable}
 use Rattle.std.proofs.Crossing.{crosses}
 use Rattle.survey_hall.proofs.Crosses.{eliminator_send}
 use Rattle.survey_hall.proofs.TaskCrosses.{eliminator_task_send}
-use Rattle.survey_hall.proofs.serves.start_eliminator.Goals as goal
+use Rattle.survey_hall.proofs.serving.start_eliminator.Goals as goal
 
 pub spawn-requires-send-F : goal.spawn-requires-send-F
 spawn-requires-send-F g c κs within =

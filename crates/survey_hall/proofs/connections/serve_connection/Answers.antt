@@ -1,5 +1,5 @@
-use Rattle.survey_hall.proofs.ServiceLemmas.{served_to_bye, service_of}
-use Rattle.survey_hall.proofs.serving.serve_connection.Goals as goal
+use Rattle.survey_hall.proofs.ConnectionLemmas.{served_to_bye, service_of}
+use Rattle.survey_hall.proofs.connections.serve_connection.Goals as goal
 
 pub returns-clause-served : goal.returns-clause-served
 returns-clause-served g c =

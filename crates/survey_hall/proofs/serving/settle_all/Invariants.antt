@@ -1,8 +1,8 @@
 use Rattle.std.proofs.Common.{◌≡◌, List}
 use Rattle.std.specs.Prelude.{vec_len, vec_capacity}
 use Rattle.json_forms.specs.DefinitionViews.{DefinitionView}
-use Rattle.survey_hall.specs.Serves.{ServesEach}
-use Rattle.survey_hall.proofs.serves.settle_all.Given as goal
+use Rattle.survey_hall.specs.Serving.{ServesEach}
+use Rattle.survey_hall.proofs.serving.settle_all.Given as goal
 
 abbrev pub invariant-loop-place : goal.invariant-loop-place
 invariant-loop-place g l = record {

@@ -1,8 +1,8 @@
 use Rattle.std.proofs.Common.{◌≡◌, ◌∙◌, List, [], length, rules, subst, sym}
 use Rattle.std.specs.Vec.Iter.{into_iter_items, into_iter_len}
-use Rattle.survey_hall.specs.declared.connections.Connection.{Connection}
-use Rattle.survey_hall.proofs.ConnectionLemmas.{IsServedSoFar, all_served, empty_of, one_more_served}
-use Rattle.survey_hall.proofs.serves.finish_all.Goals as goal
+use Rattle.survey_hall.specs.declared.connection_threads.Connection.{Connection}
+use Rattle.survey_hall.proofs.ConnectionThreadLemmas.{IsServedSoFar, all_served, empty_of, one_more_served}
+use Rattle.survey_hall.proofs.serving.finish_all.Goals as goal
 
 pub loop-connection-preserved : goal.loop-connection-preserved
 loop-connection-preserved g c =

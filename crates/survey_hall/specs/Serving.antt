@@ -3,7 +3,7 @@ use Rattle.std.specs.Prelude.{◌≡◌, ℕ, List, ◌++◌, length, Option, op
 use Rattle.std.specs.List.{AllZip}
 use Rattle.json_forms.specs.DefinitionViews.{DefinitionView}
 use Rattle.survey_hall.specs.declared.served.Served.{Served}
-use Rattle.survey_hall.specs.declared.connections.Connection.{Connection}
+use Rattle.survey_hall.specs.declared.connection_threads.Connection.{Connection}
 use Rattle.survey_hall.specs.Connections.{WasServed}
 use Rattle.survey_hall.specs.ConnectionThreads.{ServesFor}
 

@@ -2,9 +2,9 @@ use Rattle.std.proofs.Common.{◌≡◌, ◌+◌, ◌≤◌, List}
 use Rattle.std.specs.Prelude.{vec_len, vec_capacity}
 use Rattle.std.specs.Vec.Iter.{into_iter_items, into_iter_len}
 use Rattle.json_forms.specs.DefinitionViews.{DefinitionView}
-use Rattle.survey_hall.specs.Serves.{ServesEach}
-use Rattle.survey_hall.proofs.ConnectionLemmas.{IsServedSoFar}
-use Rattle.survey_hall.proofs.serves.finish_all.Given as goal
+use Rattle.survey_hall.specs.Serving.{ServesEach}
+use Rattle.survey_hall.proofs.ConnectionThreadLemmas.{IsServedSoFar}
+use Rattle.survey_hall.proofs.serving.finish_all.Given as goal
 
 abbrev pub invariant-loop-connection : goal.invariant-loop-connection
 invariant-loop-connection g l = let rest = l.connection-iterator in record {

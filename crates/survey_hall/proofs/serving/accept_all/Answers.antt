@@ -1,8 +1,8 @@
 use Rattle.std.proofs.Common.{◌∙◌, ◌++◌, ◌∷◌, [], rules}
 use Rattle.survey_hall.specs.ConnectionThreads.{ServesFor}
-use Rattle.survey_hall.proofs.ConnectionLemmas.{takes_one_more}
+use Rattle.survey_hall.proofs.ConnectionThreadLemmas.{takes_one_more}
 use Rattle.survey_hall.proofs.StackLemmas.{zip_push}
-use Rattle.survey_hall.proofs.serves.accept_all.Goals as goal
+use Rattle.survey_hall.proofs.serving.accept_all.Goals as goal
 
 pub loop-place-preserved : goal.loop-place-preserved
 loop-place-preserved g c =
