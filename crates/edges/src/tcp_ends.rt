@@ -4,10 +4,24 @@ ghost use Rattle.std.specs.Prelude.{◌≡◌, None};
 use crate::doors::Door;
 use crate::ends::{Failed, Sink, Source};
 use crate::standard_ends::{MOST_CALLS, read_some, write_some};
-use std::io;
 use std::io::ErrorKind;
 use std::marker::Model;
 use std::net::{Ipv4Addr, Net, TcpListener, TcpStream};
+use std::time::{Clock, Duration};
+use std::{io, thread};
+
+/// How many milliseconds a door waits before it accepts again, where the system has no file descriptor or memory left for a
+/// connection.
+const PAUSE: u64 = 100;
+
+// By which numbers Linux says so: of the process, of the system, memory of the network, memory.
+const EMFILE: i32 = 24;
+
+const ENFILE: i32 = 23;
+
+const ENOBUFS: i32 = 105;
+
+const ENOMEM: i32 = 12;
 
 /// A connection, as the source of what the peer sends or as the sink of what it is sent.
 #[derive(Drop)]
@@ -62,28 +76,29 @@ impl Sink for TcpEnd {
     }
 }
 
-/// A port of this machine, reached from this machine only.
+/// A port of this machine, reached from this machine only. Where the system has nothing left for one more connection, those that
+/// come wait until others have ended.
 #[derive(Drop)]
-pub struct TcpDoor<'a, R: Net<Listener = TcpListener, Stream = TcpStream>> {
-    net: &'a R,
+pub struct TcpDoor<'a, R: Net<Listener = TcpListener, Stream = TcpStream> + Clock> {
+    rt: &'a R,
     listener: Option<TcpListener>,
     faults: u64,
 }
 
-impl<'a, R: Net<Listener = TcpListener, Stream = TcpStream>> TcpDoor<'a, R> {
+impl<'a, R: Net<Listener = TcpListener, Stream = TcpStream> + Clock> TcpDoor<'a, R> {
     /// A door that doesn't listen yet, of which no call failed so far.
-    pub fn new(net: &'a R) -> TcpDoor<'a, R>
+    pub fn new(rt: &'a R) -> TcpDoor<'a, R>
         ensures { result.faults ≡ 0 }
     {
         TcpDoor {
-            net,
+            rt,
             listener: None,
             faults: 0,
         }
     }
 }
 
-impl<'a, R: Net<Listener = TcpListener, Stream = TcpStream>> Door for TcpDoor<'a, R> {
+impl<'a, R: Net<Listener = TcpListener, Stream = TcpStream> + Clock> Door for TcpDoor<'a, R> {
     type In = TcpEnd;
 
     type Out = TcpEnd;
@@ -93,7 +108,7 @@ impl<'a, R: Net<Listener = TcpListener, Stream = TcpStream>> Door for TcpDoor<'a
     ghost faults = { λ door. door.faults };
 
     fn listen(&mut self, port: u16) -> Result<(), Failed> {
-        match TcpListener::bind(self.net, (Ipv4Addr::LOCALHOST, port)) {
+        match TcpListener::bind(self.rt, (Ipv4Addr::LOCALHOST, port)) {
             Ok(listener) => {
                 self.listener = Some(listener);
                 Ok(())
@@ -107,7 +122,7 @@ impl<'a, R: Net<Listener = TcpListener, Stream = TcpStream>> Door for TcpDoor<'a
 
     fn accept(&mut self) -> Result<(TcpEnd, TcpEnd), Failed> {
         let ends = match &self.listener {
-            Some(listener) => ends_of_next(listener),
+            Some(listener) => ends_of_next(self.rt, listener),
             None => Err(Failed),
         };
         if ends.is_err() {
@@ -117,18 +132,44 @@ impl<'a, R: Net<Listener = TcpListener, Stream = TcpStream>> Door for TcpDoor<'a
     }
 }
 
-/// Both ends of the next connection. A call that was interrupted, or whose peer had gone, is made again.
-fn ends_of_next(listener: &TcpListener) -> Result<(TcpEnd, TcpEnd), Failed> {
-    for _ in 0..MOST_CALLS {
-        match listener.accept() {
-            Ok((stream, _)) => return both_ends(stream).map_err(|_| Failed),
-            Err(error) => match error.kind() {
-                ErrorKind::Interrupted | ErrorKind::ConnectionAborted => {}
-                _ => return Err(Failed),
+/// Both ends of the next connection. Waits, while the system has nothing left for it.
+fn ends_of_next(clock: &impl Clock, listener: &TcpListener) -> Result<(TcpEnd, TcpEnd), Failed> {
+    for _ in 0..u64::MAX {
+        match try_next(listener) {
+            Ok(ends) => return Ok(ends),
+            Err(error) if is_exhaustion(&error) => {
+                thread::sleep(clock, Duration::from_millis(PAUSE));
             },
+            Err(_) => return Err(Failed),
         }
     }
     Err(Failed)
+}
+
+/// Both ends of the next connection. A call that was interrupted, or whose peer had gone, is made again.
+///
+/// # Errors
+///
+/// What the last call says. A connection that was accepted is closed then.
+fn try_next(listener: &TcpListener) -> io::Result<(TcpEnd, TcpEnd)> {
+    for _ in 0..MOST_CALLS {
+        match listener.accept() {
+            Ok((stream, _)) => return both_ends(stream),
+            Err(error) => match error.kind() {
+                ErrorKind::Interrupted | ErrorKind::ConnectionAborted => {}
+                _ => return Err(error),
+            },
+        }
+    }
+    Err(io::Error::from(ErrorKind::Interrupted))
+}
+
+/// Whether the system had nothing left for a connection; there may be, once another has ended.
+fn is_exhaustion(error: &io::Error) -> bool {
+    matches!(
+        error.raw_os_error(),
+        Some(EMFILE | ENFILE | ENOBUFS | ENOMEM)
+    )
 }
 
 /// Both ends of a connection. Each reply is sent at once, and none waits for more to be sent with it; where the system refuses
