@@ -15,7 +15,14 @@ fn main(rt: HostRuntime) -> ExitCode {
     };
     let mut source = StdSource::new(rt.stdin());
     let mut sink = StdSink::new(rt.stdout());
-    let ended = command(&rt, rt.alloc(), words.as_slice(), &mut source, &mut sink, &OpenGate);
+    let ended = command(
+        &rt,
+        rt.alloc(),
+        words.as_slice(),
+        &mut source,
+        &mut sink,
+        &OpenGate,
+    );
     ExitCode::from(ended.status)
 }
 
