@@ -150,6 +150,11 @@ impl<S: Journalled> Turn<S> {
         }
     }
 
+    /// Whether some seat has the state or waits for it, as it is at this moment.
+    pub fn is_busy(&self) -> bool {
+        self.table.shared.peek(TICKET) != self.table.shared.peek(SERVING)
+    }
+
     /// Joins another seat of this turn into the seat.
     pub fn join(&self, seat: &mut TurnSeat<S>, other: TurnSeat<S>)
         requires seat { IsOutsideOf self.now seat.old }
