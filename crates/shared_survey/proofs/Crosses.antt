@@ -22,10 +22,10 @@ core_send = search (sendable, crosses, answers.the_send, classes.the_send, marks
 state_send : IsSend (State.the_field).row
 state_send = let a = core_send in search (sendable, crosses, pools.the_send) depth 40
 
-shared_send : IsSend (SharedState.the_field).row
+pub shared_send : IsSend (SharedState.the_field).row
 shared_send = let a = state_send in search sendable depth 40
 
-shared_row_send : IsSend SharedState.the_row
+pub shared_row_send : IsSend SharedState.the_row
 shared_row_send = let a = state_send in search sendable depth 40
 
 seat_send : IsSend (SurveySeat.the_field).row
