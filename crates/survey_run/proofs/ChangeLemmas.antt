@@ -1,6 +1,7 @@
 -- Lists of which the first elements were changed, and stacks that lose their tops.
 use Rattle.std.specs.Prelude.{get_or}
-use Rattle.std.proofs.Common.{◌≡◌, ℕ, suc, ◌+◌, ◌<◌, ◌≤◌, List, [], ◌∷◌, ◌++◌, length, drop, slice_set, refl, ap, sym, ◌∙◌, arith, append_assoc, append-nil, length-append, subst}
+use Rattle.std.proofs.Common.{◌≡◌, ℕ, suc, ◌+◌, ◌<◌, ◌≤◌, List, [], ◌∷◌, ◌++◌, length, slice_set, refl, ap, sym, ◌∙◌, arith, append_assoc, append-nil, length-append, subst}
+use Rattle.result_file.proofs.ListEnds.{snoc_once}
 use Rattle.survey_run.specs.Each.{EachFrom, EachZipFrom, StackFrom}
 use Rattle.survey_run.proofs.EachLemmas.{zip_push, zip_length}
 
@@ -85,26 +86,11 @@ changed_length P Q i old new part =
     omega (arith, a, b, fronts)
 
 -- ---- tops
--- two lists with the same last element
-pub push_same : {X : Type 0} (xs : List X) (x : X) (ys : List X) (y : X) → xs ++ x ∷ [] ≡ ys ++ y ∷ [] → (xs ≡ ys) × (x ≡ y)
-push_same [] x [] y e = let f : x ∷ [] ≡ y ∷ [] = e in let h : x ≡ y = cc (f) in (refl, h)
-push_same [] x (v ∷ vs) y e =
-    let n : 1 ≡ suc (length (vs ++ y ∷ [])) = ap {B = ℕ} length e in
-    let m : length (vs ++ y ∷ []) ≡ length vs + 1 = length-append vs (y ∷ []) in absurd (omega (arith, n, m))
-push_same (u ∷ us) x [] y e =
-    let n : suc (length (us ++ x ∷ [])) ≡ 1 = ap {B = ℕ} length e in
-    let m : length (us ++ x ∷ []) ≡ length us + 1 = length-append us (x ∷ []) in absurd (omega (arith, n, m))
-push_same (u ∷ us) x (v ∷ vs) y e =
-    let f : u ∷ (us ++ x ∷ []) ≡ v ∷ (vs ++ y ∷ []) = e in
-    let h : u ≡ v = cc (f) in
-    let r = push_same us x vs y (ap (λ zs. drop 1 zs) e) in
-    (ap (λ zs. zs ∷ us) h ∙ ap (λ zs. v ∷ zs) r.0, r.1)
-
 -- what a stack has on top
 pub stack_top : {X Y : Type 0} (P : ℕ → X → Y → Type 0) (n : ℕ) (x : X) (xs : List X) (ys left : List Y) (y : Y) → StackFrom P n (x ∷ xs) ys → ys ≡ left ++ y ∷ []
     → P n x y × StackFrom P (n + 1) xs left
 stack_top P n x xs ys left y stack e =
-    let same = push_same stack.0 stack.1 left y (sym stack.2 ∙ e) in
+    let same = snoc_once stack.0 stack.1 left y (sym stack.2 ∙ e) in
     (subst (λ z. P n x z) same.1 stack.3, subst (λ zs. StackFrom P (n + 1) xs zs) same.0 stack.4)
 
 pub each_map : {X : Type 0} (P Q : ℕ → X → Type 0) (n : ℕ) (xs : List X) → ((k : ℕ) (x : X) → P k x → Q k x) → EachFrom P n xs → EachFrom Q n xs

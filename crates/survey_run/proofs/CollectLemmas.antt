@@ -16,7 +16,7 @@ use Rattle.survey_run.specs.Collects.{run_at, runs_from}
 use Rattle.survey_run.specs.Each.{EachZipFrom}
 use Rattle.survey_run.specs.Ends.{DeskPart, EndAt}
 use Rattle.survey_run.specs.Runs.{count_of}
-use Rattle.survey_run.specs.Sessions.{IsRunOf, MessageRun, SessionRun, replies_of, reply_of}
+use Rattle.survey_run.specs.Sessions.{IsRunOf, MessageRun, SessionRun, message_reply, replies_of}
 use Rattle.survey_run.proofs.FoundLemmas.{IsFound, found}
 use Rattle.survey_run.proofs.ListLemmas.{map_length}
 
@@ -66,8 +66,8 @@ module _ (criteria : Criteria) (workers : ℕ) (sessions : List ScriptSessionVie
 pub reply_count : (classes : ℕ) (session : ScriptSessionView) (run : SessionRun) (replies : List Reply) → replies ≡ replies_of classes run → IsRunOf session run
     → length replies ≡ length session.messages + 1
 reply_count classes session run replies are is =
-    let all : length replies ≡ suc (length (map reply_of run.messages)) = ap {B = ℕ} length are in
-    let long = map_length reply_of run.messages in
+    let all : length replies ≡ suc (length (map message_reply run.messages)) = ap {B = ℕ} length are in
+    let long = map_length message_reply run.messages in
     let asked : length (map (λ (one : MessageRun). one.message) run.messages) ≡ length session.messages = ap {B = ℕ} length is.messages in
     let same = map_length (λ (one : MessageRun). one.message) run.messages in
     omega (arith, all, long, asked, same)

@@ -18,7 +18,7 @@ use Rattle.survey_run.specs.Desks.{DeskSession, IsSaidBy, is_at, lists_of}
 use Rattle.survey_run.specs.Each.{EachZipFrom}
 use Rattle.survey_run.specs.Ends.{DeskPart, EndAt, IsEndOf, IsPartOf}
 use Rattle.survey_run.specs.Runs.{count_of}
-use Rattle.survey_run.specs.Sessions.{IsRunOf, MessageRun, replies_of, reply_of}
+use Rattle.survey_run.specs.Sessions.{IsRunOf, MessageRun, message_reply, replies_of}
 use Rattle.survey_run.proofs.EachLemmas.{zip_length}
 use Rattle.survey_run.proofs.ListLemmas.{get_map, map_get, zip_get}
 use Rattle.survey_run.proofs.RunLemmas.{said_at}
@@ -69,8 +69,8 @@ found criteria workers sessions parts ends session place each stands low high de
       at_told = told.1;
       replies = replies.item;
       at_replies = replies.at;
-      shown = replies.same ∙ (said.replies ∙ (ap (λ (n : ℕ). Welcome n d ∷ map reply_of said.one.messages) classes
-          ∙ ap (λ (ms : List MessageRun). Welcome (count_of criteria) d ∷ map reply_of ms) (sym messages)));
+      shown = replies.same ∙ (said.replies ∙ (ap (λ (n : ℕ). Welcome n d ∷ map message_reply said.one.messages) classes
+          ∙ ap (λ (ms : List MessageRun). Welcome (count_of criteria) d ∷ map message_reply ms) (sym messages)));
       is = record {
         respondent = refl;
         desk = refl;

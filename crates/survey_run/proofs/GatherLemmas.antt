@@ -23,14 +23,14 @@ use Rattle.survey_script.specs.ScriptViews.{ScriptSessionView}
 use Rattle.std.specs.Global.{Vec}
 use Rattle.survey_run.specs.declared.plans.DeskTold.{DeskTold}
 use Rattle.survey_run.specs.declared.ends.SurveyEnd.{SurveyEnd}
-use Rattle.survey_run.specs.Desks.{Says, lists_of, said_exchanges}
+use Rattle.survey_run.specs.Desks.{SaysAll, lists_of, said_exchanges}
 use Rattle.survey_run.specs.Each.{EachFrom, EachZipFrom, StackFrom}
-use Rattle.survey_run.specs.Ends.{AreNumbered, DeskPart, Gathers, HasMade, IsEndOf, IsPartOf, all_places, run_of}
+use Rattle.survey_run.specs.Ends.{AreNumbered, DeskPart, Gathers, HasMade, IsEndOf, IsPartOf, all_places, desk_run}
 use Rattle.survey_run.specs.Joins.{WorkedAt}
-use Rattle.survey_run.specs.Plans.{IsSurveyOf}
+use Rattle.survey_run.specs.Plans.{IsSharedSurveyOf}
 use Rattle.survey_run.specs.Tops.{HasTop, LosesTop}
 use Rattle.survey_run.specs.Workers.{HasWorked}
-use Rattle.survey_run.proofs.ChangeLemmas.{push_same, stack_top}
+use Rattle.survey_run.proofs.ChangeLemmas.{stack_top}
 use Rattle.survey_run.proofs.EachLemmas.{zip_push, zip_map}
 use Rattle.survey_run.proofs.SayLemmas.{each_push_rec}
 
@@ -98,7 +98,7 @@ pub record GathersDesks (listed : Listed) (respondent : ℕ) (sessions : List Sc
 
 -- a desk's part is joined
 pub gathers_desk : (listed : Listed) (respondent : ℕ) (sessions : List ScriptSessionView) (n : ℕ) (old new seen : Seen) (told : List DeskTold) (one : DeskTold)
-    → Says listed respondent (n + 1) unseen seen sessions (lists_of one.sessions) → IsPrefix old.journal new.journal → IsPrefix seen.journal new.journal
+    → SaysAll listed respondent (n + 1) unseen seen sessions (lists_of one.sessions) → IsPrefix old.journal new.journal → IsPrefix seen.journal new.journal
     → new.own ≡ old.own ++ seen.own → GathersDesks listed respondent sessions old n told → GathersDesks listed respondent sessions new (n + 1) (told ++ one ∷ [])
 gathers_desk listed respondent sessions n old new seen told one says longer within own before =
     let part : DeskPart = record { desk = n + 1; said = says.said; seen = seen } in
@@ -156,7 +156,7 @@ gathers_worker listed respondent sessions count worker old new seen parts told l
 -- what was taken from the top is the eliminator's pass
 pub top_worked : (survey : Survey) (n : ℕ) (old : Vec Pass) (rest : List Pass) (top : Pass) → HasTop survey n old → old.items ≡ rest ++ top ∷ [] → HasWorked (n + 1) survey top
 top_worked survey n old rest top has e =
-    let same = push_same has.rest has.top rest top (sym has.whole ∙ e) in subst (λ pass. HasWorked (n + 1) survey pass) same.1 has.worked
+    let same = snoc_once has.rest has.top rest top (sym has.whole ∙ e) in subst (λ pass. HasWorked (n + 1) survey pass) same.1 has.worked
 
 -- the eliminator's passes of these surveys, the first on top
 pub WorkedFrom : ℕ → List Survey → ℕ → Vec Pass → Type 0
@@ -182,53 +182,53 @@ TalksIn listed journal run = Conversation listed run.desk unseen run.seen run.ex
 
 pub parts_talk : (listed : Listed) (respondent : ℕ) (sessions : List ScriptSessionView) (journal : List Event) (n : ℕ) (parts : List DeskPart) (told : List DeskTold)
     → EachZipFrom (IsPartOf listed respondent sessions journal) n parts told
-    → All (λ run. Conversation listed run.desk unseen run.seen run.exchanges × IsPrefix run.seen.journal journal) (map run_of parts)
+    → All (λ run. Conversation listed run.desk unseen run.seen run.exchanges × IsPrefix run.seen.journal journal) (map desk_run parts)
 parts_talk listed respondent sessions journal n [] [] each = All-nil (TalksIn listed journal)
 parts_talk listed respondent sessions journal n [] (t ∷ ts) each = absurd each
 parts_talk listed respondent sessions journal n (p ∷ ps) [] each = absurd each
 parts_talk listed respondent sessions journal n (p ∷ ps) (t ∷ ts) each =
-    All-cons (TalksIn listed journal) (run_of p) (map run_of ps)
+    All-cons (TalksIn listed journal) (desk_run p) (map desk_run ps)
     (subst (λ (desk : ℕ). Conversation listed desk unseen p.seen (said_exchanges p.said)) (sym each.0.number) each.0.talk, each.0.within)
     (parts_talk listed respondent sessions journal (n + 1) ps ts each.1)
 
 parts_above : (listed : Listed) (respondent : ℕ) (sessions : List ScriptSessionView) (journal : List Event) (n : ℕ) (parts : List DeskPart) (told : List DeskTold)
-    → EachZipFrom (IsPartOf listed respondent sessions journal) n parts told → All (λ run. n < run.desk) (map run_of parts)
+    → EachZipFrom (IsPartOf listed respondent sessions journal) n parts told → All (λ run. n < run.desk) (map desk_run parts)
 parts_above listed respondent sessions journal n [] [] each = All-nil (λ (run : DeskRun). n < run.desk)
 parts_above listed respondent sessions journal n [] (t ∷ ts) each = absurd each
 parts_above listed respondent sessions journal n (p ∷ ps) [] each = absurd each
 parts_above listed respondent sessions journal n (p ∷ ps) (t ∷ ts) each =
     let number = each.0.number in
     let first : n < p.desk = omega (arith, number) in
-    All-cons (λ (run : DeskRun). n < run.desk) (run_of p) (map run_of ps) first
-    (All-weaker (λ (run : DeskRun). n + 1 < run.desk) (λ (run : DeskRun). n < run.desk) (λ run above. omega (arith, above)) (map run_of ps)
+    All-cons (λ (run : DeskRun). n < run.desk) (desk_run p) (map desk_run ps) first
+    (All-weaker (λ (run : DeskRun). n + 1 < run.desk) (λ (run : DeskRun). n < run.desk) (λ run above. omega (arith, above)) (map desk_run ps)
     (parts_above listed respondent sessions journal (n + 1) ps ts each.1))
 
 abbrev AreApart : DeskRun → DeskRun → Type 0
 AreApart one other = one.desk ≢ other.desk
 
 pub parts_distinct : (listed : Listed) (respondent : ℕ) (sessions : List ScriptSessionView) (journal : List Event) (n : ℕ) (parts : List DeskPart) (told : List DeskTold)
-    → EachZipFrom (IsPartOf listed respondent sessions journal) n parts told → AllPairs (λ one other. one.desk ≢ other.desk) (map run_of parts)
+    → EachZipFrom (IsPartOf listed respondent sessions journal) n parts told → AllPairs (λ one other. one.desk ≢ other.desk) (map desk_run parts)
 parts_distinct listed respondent sessions journal n [] [] each = λ i j d less within. absurd (omega (arith, within))
 parts_distinct listed respondent sessions journal n [] (t ∷ ts) each = absurd each
 parts_distinct listed respondent sessions journal n (p ∷ ps) [] each = absurd each
 parts_distinct listed respondent sessions journal n (p ∷ ps) (t ∷ ts) each =
     let number = each.0.number in
-    AllPairs-cons AreApart (run_of p) (map run_of ps)
-    (All-weaker (λ (run : DeskRun). n + 1 < run.desk) (AreApart (run_of p)) (λ run above same. absurd (omega (arith, number, above, same))) (map run_of ps)
+    AllPairs-cons AreApart (desk_run p) (map desk_run ps)
+    (All-weaker (λ (run : DeskRun). n + 1 < run.desk) (AreApart (desk_run p)) (λ run above same. absurd (omega (arith, number, above, same))) (map desk_run ps)
     (parts_above listed respondent sessions journal (n + 1) ps ts each.1))
     (parts_distinct listed respondent sessions journal (n + 1) ps ts each.1)
 
-run_places : (parts : List DeskPart) → flat_map (λ (run : DeskRun). run.seen.own) (map run_of parts) ≡ flat_map (λ (part : DeskPart). part.seen.own) parts
+run_places : (parts : List DeskPart) → flat_map (λ (run : DeskRun). run.seen.own) (map desk_run parts) ≡ flat_map (λ (part : DeskPart). part.seen.own) parts
 run_places [] = refl
 run_places (p ∷ ps) = ap (λ own. p.seen.own ++ own) (run_places ps)
 
-one_inside : (count place : ℕ) → place < count → one_between 0 count place ≡ 1
+pub one_inside : (count place : ℕ) → place < count → one_between 0 count place ≡ 1
 one_inside count place less = grind (arith, nat_tests)
 
 -- desks and eliminators, joined, have made the whole journal where their places are all places
 pub makes_journal : (listed : Listed) (respondent : ℕ) (sessions : List ScriptSessionView) (seen : Seen) (count : ℕ) (parts : List DeskPart) (runs : List WorkerRun)
     (told : List DeskTold) (journal : List Event) → Gathers listed respondent sessions seen parts runs told → AreNumbered count runs → IsPrefix seen.journal journal
-    → AreAllPlaces 0 (length journal) seen.own → MakesJournal listed journal (map run_of parts) runs
+    → AreAllPlaces 0 (length journal) seen.own → MakesJournal listed journal (map desk_run parts) runs
 makes_journal listed respondent sessions seen count parts runs told journal gathers numbered prefix all =
     let each = parts_longer listed respondent sessions seen.journal journal 0 parts told prefix gathers.each in
     record {
@@ -243,7 +243,7 @@ makes_journal listed respondent sessions seen count parts runs told journal gath
 
 -- the survey's end
 pub survey_ends : (criteria : Criteria) (workers n : ℕ) (sessions : List ScriptSessionView) (survey : Survey) (seen : Seen) (parts : List DeskPart) (end : SurveyEnd)
-    → IsSurveyOf criteria workers survey → length parts ≡ MAX_DESKS → GathersWorkers (survey_listed survey) (n + 1) sessions seen workers parts end.told.items
+    → IsSharedSurveyOf criteria workers survey → length parts ≡ MAX_DESKS → GathersWorkers (survey_listed survey) (n + 1) sessions seen workers parts end.told.items
     → end.state.listed ≡ survey_listed survey → IsListed end.state.listed → IsLegal end.state.listed end.state.journal
     → IsPrefix seen.journal end.state.journal → AreAllPlaces 0 (length end.state.journal) seen.own → IsEndOf criteria (n + 1) workers sessions parts end
 survey_ends criteria workers n sessions survey seen parts end is count gathered same listed legal prefix all = record {
@@ -255,6 +255,6 @@ survey_ends criteria workers n sessions survey seen parts end is count gathered 
   count = count;
   eliminators = gathered.runs;
   numbered = gathered.numbered;
-  makes = subst (λ (l : Listed). MakesJournal l end.state.journal (map run_of parts) gathered.runs) (sym same)
+  makes = subst (λ (l : Listed). MakesJournal l end.state.journal (map desk_run parts) gathered.runs) (sym same)
       (makes_journal (survey_listed survey) (n + 1) sessions seen workers parts gathered.runs end.told.items end.state.journal gathered.gathers gathered.numbered prefix all);
 }

@@ -13,6 +13,7 @@ use Rattle.json_forms.specs.declared.replies.Reply.TheVariants.{Welcome}
 use Rattle.survey_core.specs.declared.events.Event.{Event}
 use Rattle.survey_core.specs.Legal.{IsLegal}
 use Rattle.survey_core.proofs.ListSteps.{Each, Each-All, All-Each}
+use Rattle.survey_core.proofs.NextTables.{flat_map-same}
 use Rattle.survey_replies.specs.Gists.{gist_of}
 use Rattle.survey_replies.specs.PlainLaws.{IsAlone}
 use Rattle.survey_replies.specs.Outcomes.{Exchange, at_of}
@@ -30,7 +31,7 @@ use Rattle.session_protocol.specs.Sessions.{CanBeWritten}
 use Rattle.session_protocol.proofs.ReplyCases.{answer_within, writable}
 use Rattle.survey_run.specs.Laws.{DeskReadsWhatItWrote, EachEliminateHasItsMaker, EachEventHasItsReply, EachReplyCanBeWritten, EachReplyStands, OneDeskRunsPlain}
 use Rattle.survey_run.specs.Runs.{IsSurveyRun}
-use Rattle.survey_run.specs.Sessions.{MessageRun, SessionRun, all_exchanges, exchange_of, exchanges_of, of_desk, replies_of, reply_of}
+use Rattle.survey_run.specs.Sessions.{MessageRun, SessionRun, all_exchanges, message_exchange, message_exchanges, message_reply, of_desk, replies_of}
 
 -- ---- what a desk said
 -- the one conversation of a desk, over all its sessions
@@ -55,7 +56,7 @@ desk_talk criteria workers sessions state desk is (k, run, less, at, number) =
     }
 
 -- the sessions of a desk have what all its exchanges have
-each_message : (P : Exchange → Type 0) (messages : List MessageRun) → Each P (exchanges_of messages) → Each (λ (one : MessageRun). P (exchange_of one)) messages
+each_message : (P : Exchange → Type 0) (messages : List MessageRun) → Each P (message_exchanges messages) → Each (λ (one : MessageRun). P (message_exchange one)) messages
 each_message P [] each = tt
 each_message P (one ∷ messages) each = (each.0, each_message P messages each.1)
 
@@ -64,15 +65,15 @@ each_split P [] ys each = (tt, each)
 each_split P (x ∷ xs) ys each = let rest = each_split P xs ys each.1 in ((each.0, rest.0), rest.1)
 
 each_session : (P : Exchange → Type 0) (desk : ℕ) (sessions : List SessionRun) → Each P (all_exchanges (of_desk desk sessions))
-    → Each (λ (session : SessionRun). session.desk ≡ desk → All (λ (one : MessageRun). P (exchange_of one)) session.messages) sessions
+    → Each (λ (session : SessionRun). session.desk ≡ desk → All (λ (one : MessageRun). P (message_exchange one)) session.messages) sessions
 each_session P desk [] each = tt
 each_session P desk (s ∷ ss) each =
-    let Has = λ (session : SessionRun). session.desk ≡ desk → All (λ (one : MessageRun). P (exchange_of one)) session.messages in
+    let Has = λ (session : SessionRun). session.desk ≡ desk → All (λ (one : MessageRun). P (message_exchange one)) session.messages in
     let go : (b : Bool) → (s.desk == desk) ≡ b → Each P (all_exchanges (cond b (s ∷ of_desk desk ss) (of_desk desk ss))) → Each Has (s ∷ ss) =
     λ b. elim b as (λ b. (s.desk == desk) ≡ b → Each P (all_exchanges (cond b (s ∷ of_desk desk ss) (of_desk desk ss))) → Each Has (s ∷ ss)) [
       | true ↦ λ yes all.
-          (let parts = each_split P (exchanges_of s.messages) (all_exchanges (of_desk desk ss)) all in
-          ((λ same. Each-All (λ (one : MessageRun). P (exchange_of one)) s.messages (each_message P s.messages parts.0)), each_session P desk ss parts.1))
+          (let parts = each_split P (message_exchanges s.messages) (all_exchanges (of_desk desk ss)) all in
+          ((λ same. Each-All (λ (one : MessageRun). P (message_exchange one)) s.messages (each_message P s.messages parts.0)), each_session P desk ss parts.1))
       | false ↦ λ no all. ((λ same. absurd (true≢false (sym (eq-eqb s.desk desk same) ∙ no))), each_session P desk ss all)
     ] in
     go (s.desk == desk) refl each
@@ -83,7 +84,7 @@ each_reply_stands_lem criteria workers sessions state is = λ k session within.
     let talk = desk_talk criteria workers sessions state desk is (is.each k session within) in
     let Right = λ (exchange : Exchange). IsReplyIn state.listed desk state.journal exchange.request exchange.reply in
     let right = replies_stand_lem state.listed desk unseen talk.seen (all_exchanges (of_desk desk sessions)) state.journal talk.talk talk.within in
-    Each-All (λ (s : SessionRun). s.desk ≡ desk → All (λ (one : MessageRun). Right (exchange_of one)) s.messages) sessions
+    Each-All (λ (s : SessionRun). s.desk ≡ desk → All (λ (one : MessageRun). Right (message_exchange one)) s.messages) sessions
     (each_session Right desk sessions (All-Each Right (all_exchanges (of_desk desk sessions)) right)) k session within refl
 
 -- ---- order
@@ -126,7 +127,7 @@ replied : ℕ → List Event → List SessionRun → ℕ
 replied place journal sessions = occurrences place (reply_places journal (all_exchanges sessions))
 
 replied_first : ℕ → List Event → SessionRun → ℕ
-replied_first place journal session = occurrences place (reply_places journal (exchanges_of session.messages))
+replied_first place journal session = occurrences place (reply_places journal (message_exchanges session.messages))
 
 by_desks : ℕ → List Event → List SessionRun → List DeskRun → ℕ
 by_desks place journal sessions desks = occurrences place (flat_map (λ (run : DeskRun). reply_places journal (all_exchanges (of_desk run.desk sessions))) desks)
@@ -142,8 +143,8 @@ by_none place journal sessions = refl
 replied_more : (place : ℕ) (journal : List Event) (s : SessionRun) (ss : List SessionRun) → replied place journal (s ∷ ss) ≡ replied_first place journal s + replied place journal ss
 unfolding replied replied_first
 replied_more place journal s ss =
-    ap {B = ℕ} (occurrences place) (flat_map-append (λ (exchange : Exchange). places_of journal exchange.reply) (exchanges_of s.messages) (all_exchanges ss))
-    ∙ times_both place (reply_places journal (exchanges_of s.messages)) (reply_places journal (all_exchanges ss))
+    ap {B = ℕ} (occurrences place) (flat_map-append (λ (exchange : Exchange). places_of journal exchange.reply) (message_exchanges s.messages) (all_exchanges ss))
+    ∙ times_both place (reply_places journal (message_exchanges s.messages)) (reply_places journal (all_exchanges ss))
 
 by_desks_more : (place : ℕ) (journal : List Event) (sessions : List SessionRun) (run : DeskRun) (desks : List DeskRun)
     → by_desks place journal sessions (run ∷ desks) ≡ replied place journal (of_desk run.desk sessions) + by_desks place journal sessions desks
@@ -218,10 +219,6 @@ all_desks place journal desks [] distinct each = nothing_more place journal desk
 all_desks place journal desks (s ∷ ss) distinct each =
     omega (arith, session_more place journal s ss desks each.0 distinct, all_desks place journal desks ss distinct each.1, replied_more place journal s ss)
 
-flat_same : {X Y : Type 0} (f g : X → List Y) (xs : List X) → Each (λ x. f x ≡ g x) xs → flat_map f xs ≡ flat_map g xs
-flat_same f g [] each = refl
-flat_same {X} {Y} f g (x ∷ xs) each = ap (λ (ys : List Y). ys ++ flat_map f xs) each.0 ∙ ap (λ (ys : List Y). g x ++ ys) (flat_same f g xs each.1)
-
 each_said : (journal : List Event) (sessions : List SessionRun) (desks : List DeskRun) → Each (λ (run : DeskRun). run.exchanges ≡ all_exchanges (of_desk run.desk sessions)) desks
     → Each (λ (run : DeskRun). reply_places journal run.exchanges ≡ reply_places journal (all_exchanges (of_desk run.desk sessions))) desks
 each_said journal sessions [] each = tt
@@ -233,7 +230,7 @@ each_event_has_its_reply_lem criteria workers sessions state place event is at n
     let Said = λ (run : DeskRun). run.exchanges ≡ all_exchanges (of_desk run.desk sessions) in
     let Named = λ (session : SessionRun). Any (λ (run : DeskRun). run.desk ≡ session.desk) is.desks in
     let once = each_has_one_reply_lem state.listed state.journal is.desks is.eliminators place event is.makes at none in
-    let same = flat_same (λ (run : DeskRun). reply_places state.journal run.exchanges) (λ (run : DeskRun). reply_places state.journal (all_exchanges (of_desk run.desk sessions))) is.desks
+    let same = flat_map-same (λ (run : DeskRun). reply_places state.journal run.exchanges) (λ (run : DeskRun). reply_places state.journal (all_exchanges (of_desk run.desk sessions))) is.desks
     (each_said state.journal sessions is.desks (All-Each Said is.desks is.said)) in
     let all : by_desks place state.journal sessions is.desks ≡ replied place state.journal sessions =
     all_desks place state.journal is.desks sessions is.makes.distinct (All-Each Named sessions is.each) in
@@ -333,8 +330,8 @@ each_writable listed desk before after (exchange ∷ exchanges) journal (middle,
 welcome_writable : (listed : Listed) (journal : List Event) (classes desk : ℕ) → CanBeWritten listed journal (Welcome classes desk)
 welcome_writable listed journal classes desk = record { writable = tt; within = λ count same. absurd (cc) }
 
-replies_writable : (listed : Listed) (journal : List Event) (messages : List MessageRun) → Each (λ (one : MessageRun). WritableTo listed journal (exchange_of one)) messages
-    → Each (CanBeWritten listed journal) (map reply_of messages)
+replies_writable : (listed : Listed) (journal : List Event) (messages : List MessageRun) → Each (λ (one : MessageRun). WritableTo listed journal (message_exchange one)) messages
+    → Each (CanBeWritten listed journal) (map message_reply messages)
 unfolding WritableTo
 replies_writable listed journal [] each = tt
 replies_writable listed journal (one ∷ messages) each = (each.0 one.message refl, replies_writable listed journal messages each.1)
@@ -344,9 +341,9 @@ each_reply_can_be_written_lem criteria workers classes sessions state is = λ k 
     let one = get_or sessions k session in
     let talk = desk_talk criteria workers sessions state one.desk is (is.each k session within) in
     let can = each_writable state.listed one.desk unseen talk.seen (all_exchanges (of_desk one.desk sessions)) state.journal talk.talk talk.within in
-    let Has = λ (s : SessionRun). s.desk ≡ one.desk → All (λ (m : MessageRun). WritableTo state.listed state.journal (exchange_of m)) s.messages in
+    let Has = λ (s : SessionRun). s.desk ≡ one.desk → All (λ (m : MessageRun). WritableTo state.listed state.journal (message_exchange m)) s.messages in
     let said = Each-All Has sessions (each_session (WritableTo state.listed state.journal) one.desk sessions can) k session within refl in
     Each-All (CanBeWritten state.listed state.journal) (replies_of classes one) (
       welcome_writable state.listed state.journal classes one.desk,
-      replies_writable state.listed state.journal one.messages (All-Each (λ (m : MessageRun). WritableTo state.listed state.journal (exchange_of m)) one.messages said),
+      replies_writable state.listed state.journal one.messages (All-Each (λ (m : MessageRun). WritableTo state.listed state.journal (message_exchange m)) one.messages said),
     )

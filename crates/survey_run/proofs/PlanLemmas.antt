@@ -13,7 +13,7 @@ use Rattle.survey_run.specs.declared.workers.WorkerJob.{WorkerJob}
 use Rattle.survey_run.specs.Each.{EachFrom, EachZipFrom}
 use Rattle.survey_run.specs.Joins.{HasRoomFor, RunningAt}
 use Rattle.survey_run.specs.Plans.{PlanAt}
-use Rattle.survey_run.specs.Workers.{IsFresh, WorkAt}
+use Rattle.survey_run.specs.Workers.{IsFreshPass, WorkAt}
 use Rattle.survey_run.proofs.EachLemmas.{all_zip_length}
 
 -- eliminators that don't have all passes have room for one more
@@ -22,7 +22,7 @@ pub rooms_of : (criteria : Criteria) (count : ℕ) (surveys : List Survey) (n : 
     → AllByRecursion (λ (job : WorkerJob). length job.passes.items < vec_capacity job.passes) works
 rooms_of criteria count surveys n [] less each = tt
 rooms_of criteria count surveys n (w ∷ ws) less each =
-    let long = all_zip_length IsFresh surveys w.passes.items each.0.passes in
+    let long = all_zip_length IsFreshPass surveys w.passes.items each.0.passes in
     (omega (arith, long, less, each.0.room), rooms_of criteria count surveys (n + 1) ws less each.1)
 
 -- all surveys are of the model

@@ -1,7 +1,6 @@
 -- A desk beside eliminators alone.
-use Rattle.std.proofs.Common.{◌≡◌, ◌∙◌, ℕ, ◌+◌, ◌<◌, List, [], ◌∷◌, ◌++◌, length, All, Some, slice_get, ap, sym, subst, arith, refl}
+use Rattle.std.proofs.Common.{◌≡◌, ◌∙◌, ℕ, ◌+◌, List, [], ◌∷◌, ◌++◌, length, All, Some, slice_get, ap, sym, subst, arith, refl}
 use Rattle.std.specs.List.{AllByRecursion, flat_map}
-use Rattle.std.proofs.lemmas.Bool.Decides.{nat_tests}
 use Rattle.std.proofs.lemmas.List.Elements.{All-from_recursion}
 use mathlib.Core.List.{IsPrefix}
 use Rattle.survey_core.specs.declared.events.Event.{Event}
@@ -11,12 +10,9 @@ use Rattle.survey_replies.specs.JournalLaws.{WorkerRun}
 use Rattle.survey_replies.specs.PlainLaws.{IsAlone}
 use Rattle.survey_replies.proofs.CallLemmas.{prefix_get}
 use Rattle.survey_replies.proofs.JournalLemmas.{place_within, times_both, workers_none}
-use Rattle.turn_lock.specs.Rule.{AreAllPlaces, one_between}
+use Rattle.turn_lock.specs.Rule.{AreAllPlaces}
 use Rattle.survey_run.specs.Ends.{HasMade}
-use Rattle.survey_run.proofs.GatherLemmas.{made_longer}
-
-one_inside : (count place : ℕ) → place < count → one_between 0 count place ≡ 1
-one_inside count place less = grind (arith, nat_tests)
+use Rattle.survey_run.proofs.GatherLemmas.{made_longer, one_inside}
 
 -- where all places are the desk's and those of eliminations, the desk is alone but for these
 pub desk_is_alone : (seen : Seen) (joined journal : List Event) (runs : List WorkerRun) (own : List ℕ) → IsPrefix seen.journal journal → IsPrefix joined journal

@@ -24,9 +24,9 @@ use Rattle.survey_run.specs.declared.plans.DeskTold.{DeskTold}
 use Rattle.survey_run.specs.Collects.{part_at, run_at, runs_from}
 use Rattle.survey_run.specs.Desks.{DeskSession, IsSaid, IsSaidBy, is_at, said_exchanges}
 use Rattle.survey_run.specs.Each.{EachZipFrom}
-use Rattle.survey_run.specs.Ends.{DeskPart, IsEndOf, IsPartOf, run_of}
+use Rattle.survey_run.specs.Ends.{DeskPart, IsEndOf, IsPartOf, desk_run}
 use Rattle.survey_run.specs.Runs.{IsSurveyRun}
-use Rattle.survey_run.specs.Sessions.{SessionRun, all_exchanges, exchanges_of, of_desk, of_respondent}
+use Rattle.survey_run.specs.Sessions.{SessionRun, all_exchanges, message_exchanges, of_desk, of_respondent}
 use Rattle.survey_run.proofs.EachLemmas.{zip_length}
 use Rattle.survey_run.proofs.ListLemmas.{flat_filter, get_map}
 use Rattle.survey_run.proofs.RunLemmas.{desk_exchanges}
@@ -61,14 +61,14 @@ silent classes respondent desk sessions (one ∷ rest) each of none =
     let later : List ScriptSessionView = map (λ (one : DeskSession). one.session) rest in
     let parts = or_none (is_at respondent desk one.session) (list_any (is_at respondent desk) later) (ap (list_any (is_at respondent desk)) of ∙ none) in
     let nothing : IsSaid classes desk false one = subst (λ (b : Bool). IsSaid classes desk b one) parts.0 each.0 in
-    ap (λ (xs : List Exchange). xs ++ said_exchanges rest) (ap exchanges_of nothing.0) ∙ silent classes respondent desk later rest each.1 refl parts.1
+    ap (λ (xs : List Exchange). xs ++ said_exchanges rest) (ap message_exchanges nothing.0) ∙ silent classes respondent desk later rest each.1 refl parts.1
 
 idle_owns_none : (listed : Listed) (desk : ℕ) (seen : Seen) (exchanges : List Exchange) → exchanges ≡ [] → Conversation listed desk unseen seen exchanges → seen.own ≡ []
 idle_owns_none listed desk seen exchanges none talk = let watches = subst (Conversation listed desk unseen seen) none talk in watches.own
 
 idle_desks : (listed : Listed) (respondent : ℕ) (sessions : List ScriptSessionView) (journal : List Event) (n : ℕ) (parts : List DeskPart) (told : List DeskTold)
     → EachZipFrom (IsPartOf listed respondent sessions journal) n parts told
-    → AllByRecursion (λ (run : DeskRun). has_session respondent sessions run ≡ false → run.seen.own ≡ []) (map run_of parts)
+    → AllByRecursion (λ (run : DeskRun). has_session respondent sessions run ≡ false → run.seen.own ≡ []) (map desk_run parts)
 idle_desks listed respondent sessions journal n [] [] each = tt
 idle_desks listed respondent sessions journal n [] (t ∷ ts) each = absurd each
 idle_desks listed respondent sessions journal n (p ∷ ps) [] each = absurd each
@@ -83,7 +83,7 @@ idle_desks listed respondent sessions journal n (p ∷ ps) (t ∷ ts) each =
 said_all : (listed : Listed) (respondent : ℕ) (sessions : List ScriptSessionView) (journal : List Event) (parts : List (List DeskPart)) (desks : List DeskPart)
     → item_at parts respondent ≡ Some desks → (n : ℕ) (rest : List DeskPart) (told : List DeskTold) → EachZipFrom (IsPartOf listed respondent sessions journal) n rest told
     → ((k : ℕ) (p : DeskPart) → slice_get rest k ≡ Some p → slice_get desks (n + k) ≡ Some p)
-    → Each (λ (run : DeskRun). run.exchanges ≡ all_exchanges (of_desk run.desk (of_respondent respondent (runs_from parts 0 sessions)))) (map run_of rest)
+    → Each (λ (run : DeskRun). run.exchanges ≡ all_exchanges (of_desk run.desk (of_respondent respondent (runs_from parts 0 sessions)))) (map desk_run rest)
 said_all listed respondent sessions journal parts desks there n [] [] each within = tt
 said_all listed respondent sessions journal parts desks there n [] (t ∷ ts) each within = absurd each
 said_all listed respondent sessions journal parts desks there n (p ∷ ps) [] each within = absurd each
@@ -134,11 +134,11 @@ desk_number listed respondent sessions journal n (q ∷ qs) (t ∷ ts) (suc k) p
 session_desks : (criteria : Criteria) (respondent workers : ℕ) (sessions : List ScriptSessionView) (parts : List (List DeskPart)) (desks : List DeskPart) (end : SurveyEnd)
     → IsEndOf criteria respondent workers sessions desks end → (n : ℕ) (rest : List ScriptSessionView)
     → ((k : ℕ) (s : ScriptSessionView) → slice_get rest k ≡ Some s → (slice_get sessions (n + k) ≡ Some s) × IsDesk s.desk)
-    → Each (λ (run : SessionRun). Any (λ (x : DeskRun). x.desk ≡ run.desk) (filter (has_session respondent sessions) (map run_of desks)))
+    → Each (λ (run : SessionRun). Any (λ (x : DeskRun). x.desk ≡ run.desk) (filter (has_session respondent sessions) (map desk_run desks)))
     (of_respondent respondent (runs_from parts n rest))
 session_desks criteria respondent workers sessions parts desks end is n [] within = tt
 session_desks criteria respondent workers sessions parts desks end is n (s ∷ ss) within =
-    let P = λ (run : SessionRun). Any (λ (x : DeskRun). x.desk ≡ run.desk) (filter (λ (x : DeskRun). list_any (is_at respondent x.desk) sessions) (map run_of desks)) in
+    let P = λ (run : SessionRun). Any (λ (x : DeskRun). x.desk ≡ run.desk) (filter (λ (x : DeskRun). list_any (is_at respondent x.desk) sessions) (map desk_run desks)) in
     let later = session_desks criteria respondent workers sessions parts desks end is (n + 1) ss
     (λ k t is. let e : n + suc k ≡ n + 1 + k = omega arith in rw e at (within (suc k) t is)) in
     let z : n + 0 ≡ n = omega arith in
@@ -151,8 +151,8 @@ session_desks criteria respondent workers sessions parts desks end is n (s ∷ s
       | true ↦ λ yes.
           (let number : part.0.desk ≡ s.desk = desk_number end.state.listed respondent sessions end.state.journal 0 desks end.told.items (s.desk - 1) part.0 is.each part.1 ∙ omega (arith, desk.0) in
           let own : is_at respondent part.0.desk s ≡ true = rw (yes, eq-eqb s.desk part.0.desk (sym number)) refl in (
-            any_filter (λ (x : DeskRun). x.desk ≡ s.desk) (λ (x : DeskRun). list_any (is_at respondent x.desk) sessions) (map run_of desks) (s.desk - 1) (run_of part.0)
-                (get_map run_of desks (s.desk - 1) part.0 part.1) (any_got (is_at respondent part.0.desk) sessions n s (rw z at first.0) own) number,
+            any_filter (λ (x : DeskRun). x.desk ≡ s.desk) (λ (x : DeskRun). list_any (is_at respondent x.desk) sessions) (map desk_run desks) (s.desk - 1) (desk_run part.0)
+                (get_map desk_run desks (s.desk - 1) part.0 part.1) (any_got (is_at respondent part.0.desk) sessions n s (rw z at first.0) own) number,
             later,
           ))
       | false ↦ λ no. later
@@ -183,24 +183,24 @@ pub survey_run : (criteria : Criteria) (respondent workers : ℕ) (sessions : Li
 survey_run criteria respondent workers sessions parts desks end there is whole =
     let p = λ (run : DeskRun). list_any (is_at respondent run.desk) sessions in
     let mine = of_respondent respondent (runs_from parts 0 sessions) in
-    let kept = filter p (map run_of desks) in
+    let kept = filter p (map desk_run desks) in
     let Said = λ (run : DeskRun). run.exchanges ≡ all_exchanges (of_desk run.desk mine) in
     let Named = λ (run : SessionRun). Any (λ (x : DeskRun). x.desk ≡ run.desk) kept in
     let Sat = λ (run : DeskRun). Any (λ (session : SessionRun). session.desk ≡ run.desk) mine in
     let start : (k : ℕ) (q : DeskPart) → slice_get desks k ≡ Some q → slice_get desks (0 + k) ≡ Some q = λ k q stands. let e : 0 + k ≡ k = omega arith in rw e stands in
-    let said : Each Said (map run_of desks) = said_all end.state.listed respondent sessions end.state.journal parts desks there 0 desks end.told.items is.each start in
+    let said : Each Said (map desk_run desks) = said_all end.state.listed respondent sessions end.state.journal parts desks there 0 desks end.told.items is.each start in
     record {
       model = is.model;
       listed = is.listed;
       legal = is.legal;
       desks = kept;
-      said = Each-All Said kept (Each-map (λ (run : DeskRun). Said run × (p run ≡ true)) Said (λ run both. both.0) kept (Each-filter Said p (map run_of desks) said));
+      said = Each-All Said kept (Each-map (λ (run : DeskRun). Said run × (p run ≡ true)) Said (λ run both. both.0) kept (Each-filter Said p (map desk_run desks) said));
       each = Each-All Named mine (session_desks criteria respondent workers sessions parts desks end is 0 sessions
           (λ k s stands. let e : 0 + k ≡ k = omega arith in (rw e stands, whole k s stands)));
       only = Each-All Sat kept (Each-map (λ (run : DeskRun). Said run × (p run ≡ true)) Sat (λ run both. desk_sessions respondent run.desk parts 0 sessions both.1) kept
-          (Each-filter Said p (map run_of desks) said));
+          (Each-filter Said p (map desk_run desks) said));
       eliminators = is.eliminators;
       numbered = λ k d within. (is.numbered k d within).1;
-      makes = desks_left end.state.listed end.state.journal (map run_of desks) is.eliminators p is.makes
+      makes = desks_left end.state.listed end.state.journal (map desk_run desks) is.eliminators p is.makes
           (idle_desks end.state.listed respondent sessions end.state.journal 0 desks end.told.items is.each);
     }

@@ -12,9 +12,9 @@ use Rattle.shared_survey.specs.declared.survey.Survey.{Survey}
 use Rattle.shared_survey.specs.declared.pass.Pass.{Pass}
 use Rattle.shared_survey.specs.Benches.{bench_about, bench_seen}
 use Rattle.shared_survey.specs.Passes.{survey_listed}
-use Rattle.survey_run.specs.Workers.{IsFresh, HasWorked, HoldsFresh, HasWorkedAt}
+use Rattle.survey_run.specs.Workers.{HasWorked, HasWorkedAt, HoldsFresh, IsFreshPass}
 
-pub fresh_worked : (worker : ℕ) (survey : Survey) (pass : Pass) → IsFresh survey pass → HasWorked worker survey pass
+pub fresh_worked : (worker : ℕ) (survey : Survey) (pass : Pass) → IsFreshPass survey pass → HasWorked worker survey pass
 fresh_worked worker survey pass fresh = record {
   of = fresh.of;
   weight = fresh.weight;

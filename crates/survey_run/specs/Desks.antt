@@ -14,7 +14,7 @@ use Rattle.shared_survey.specs.Passes.{IsPassOf, desk_of, pass_seen, pass_weight
 use Rattle.survey_script.specs.ScriptViews.{ScriptSessionView}
 use Rattle.survey_run.specs.declared.desks.DeskJob.{DeskJob}
 use Rattle.survey_run.specs.declared.desks.Spoken.{Spoken}
-use Rattle.survey_run.specs.Sessions.{MessageRun, reply_of, exchanges_of}
+use Rattle.survey_run.specs.Sessions.{MessageRun, message_exchanges, message_reply}
 
 -- the session is one of this respondent at this desk
 abbrev pub is_at : ℕ → ℕ → ScriptSessionView → Bool
@@ -29,7 +29,7 @@ pub record DeskSession : Type 0 where
 -- in one of its own, a reply to each line; in another desk's, nothing
 abbrev pub IsSaid : ℕ → ℕ → Bool → DeskSession → Type 0
 IsSaid classes desk true one =
-    (map (λ m. m.message) one.messages ≡ one.session.messages) × (one.replies ≡ Welcome classes desk ∷ map reply_of one.messages)
+    (map (λ m. m.message) one.messages ≡ one.session.messages) × (one.replies ≡ Welcome classes desk ∷ map message_reply one.messages)
 IsSaid classes desk false one = (one.messages ≡ []) × (one.replies ≡ [])
 
 -- the same of a desk by its number
@@ -38,10 +38,10 @@ IsSaidBy classes respondent desk one = IsSaid classes desk (is_at respondent des
 
 -- all that was asked, and what came of it
 abbrev pub said_exchanges : List DeskSession → List Exchange
-said_exchanges said = flat_map (λ one. exchanges_of one.messages) said
+said_exchanges said = flat_map (λ one. message_exchanges one.messages) said
 
 -- what the desk says in these sessions, one after another
-pub record Says (listed : Listed) (respondent desk : ℕ) (before after : Seen) (sessions : List ScriptSessionView) (told : List (List Reply)) : Type 0 where
+pub record SaysAll (listed : Listed) (respondent desk : ℕ) (before after : Seen) (sessions : List ScriptSessionView) (told : List (List Reply)) : Type 0 where
   pub said : List DeskSession
   pub each : AllByRecursion (IsSaidBy (length listed.classes) respondent desk) said
   pub of : map (λ one. one.session) said ≡ sessions
@@ -52,14 +52,14 @@ pub record Says (listed : Listed) (respondent desk : ℕ) (before after : Seen) 
 pub record SaysOne (listed : Listed) (respondent desk : ℕ) (before after : Seen) (session : ScriptSessionView) (replies : List Reply) : Type 0 where
   pub messages : List MessageRun
   pub is : IsSaidBy (length listed.classes) respondent desk (record { session = session; messages = messages; replies = replies })
-  pub talk : Conversation listed desk before after (exchanges_of messages)
+  pub talk : Conversation listed desk before after (message_exchanges messages)
 
 -- the replies of each session
 abbrev pub lists_of : Vec (Vec Reply) → List (List Reply)
 lists_of told = map (λ replies. replies.items) told.items
 
 -- there is room for the replies of a session of the desk
-pub record HasRoom (respondent desk : ℕ) (session : ScriptSessionView) (room : Vec Reply) : Type 0 where
+pub record HasSessionRoom (respondent desk : ℕ) (session : ScriptSessionView) (room : Vec Reply) : Type 0 where
   pub empty : room.items ≡ []
   pub fits : IsTrue (is_at respondent desk session) → length session.messages + 1 ≤ vec_capacity room
 
@@ -76,7 +76,7 @@ pub record IsJobFor (survey : Survey) (respondent desk : ℕ) (sessions : List S
   pub is_desk : IsDesk desk
   pub sits : desk_of job.pass ≢ 0 → desk_of job.pass ≡ desk
   pub idle : desk_of job.pass ≡ 0 → HasNoSession respondent desk sessions
-  pub rooms : AllZip (HasRoom respondent desk) sessions job.rooms.items
+  pub rooms : AllZip (HasSessionRoom respondent desk) sessions job.rooms.items
   pub told : (job.told.items ≡ []) × (length sessions ≤ vec_capacity job.told)
   pub jobs : ForSome job.jobs (λ end. (1 ≤ respondent) × (respondent ≤ end.surveys))
 
@@ -84,4 +84,4 @@ pub record IsJobFor (survey : Survey) (respondent desk : ℕ) (sessions : List S
 pub record HasSpoken (survey : Survey) (respondent desk : ℕ) (sessions : List ScriptSessionView) (spoken : Spoken) : Type 0 where
   pub pass : IsPassOf survey spoken.pass
   pub weight : pass_weight spoken.pass ≡ 1
-  pub said : IfOk spoken.told (λ told. Says (survey_listed survey) respondent desk unseen (pass_seen spoken.pass) sessions (lists_of told))
+  pub said : IfOk spoken.told (λ told. SaysAll (survey_listed survey) respondent desk unseen (pass_seen spoken.pass) sessions (lists_of told))

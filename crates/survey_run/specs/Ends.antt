@@ -22,8 +22,8 @@ pub record DeskPart : Type 0 where
   pub seen : Seen
 
 -- all its sessions, one after another
-abbrev pub run_of : DeskPart → DeskRun
-run_of part = record { desk = part.desk; exchanges = said_exchanges part.said; seen = part.seen }
+abbrev pub desk_run : DeskPart → DeskRun
+desk_run part = record { desk = part.desk; exchanges = said_exchanges part.said; seen = part.seen }
 
 -- the part of the desk with this number, counted from 0, and the replies that show it
 pub record IsPartOf (listed : Listed) (respondent : ℕ) (sessions : List ScriptSessionView) (journal : List Event) (n : ℕ) (part : DeskPart) (told : DeskTold) : Type 0 where
@@ -61,7 +61,7 @@ pub record IsEndOf (criteria : Criteria) (respondent workers : ℕ) (sessions : 
   pub count : length parts ≡ MAX_DESKS
   pub eliminators : List WorkerRun
   pub numbered : AreNumbered workers eliminators
-  pub makes : MakesJournal end.state.listed end.state.journal (map run_of parts) eliminators
+  pub makes : MakesJournal end.state.listed end.state.journal (map desk_run parts) eliminators
 
 -- that of the respondent with this number, counted from 0
 abbrev pub EndAt : Criteria → ℕ → List ScriptSessionView → ℕ → List DeskPart → SurveyEnd → Type 0

@@ -17,7 +17,7 @@ use Rattle.survey_run.specs.declared.workers.Working.{Working}
 use Rattle.survey_run.specs.Desks.{HasSpoken}
 use Rattle.survey_run.specs.DeskRuns.{RunsFor}
 use Rattle.survey_run.specs.Each.{EachFrom}
-use Rattle.survey_run.specs.Plans.{IsSurveyOf}
+use Rattle.survey_run.specs.Plans.{IsSharedSurveyOf}
 use Rattle.survey_run.specs.Workers.{IsStack}
 use Rattle.survey_run.specs.WorkerRuns.{WorksFor}
 
@@ -54,11 +54,11 @@ pub record IsSpokenOf (survey : Survey) (respondent : ℕ) (sessions : List Scri
 
 -- the same of the survey of the respondent with this number, counted from 0
 pub record RunningAt (criteria : Criteria) (workers : ℕ) (sessions : List ScriptSessionView) (n : ℕ) (survey : Survey) (running : SurveyRunning) : Type 0 where
-  pub survey_is : IsSurveyOf criteria workers survey
+  pub survey_is : IsSharedSurveyOf criteria workers survey
   pub running_is : IsRunningOf survey (n + 1) sessions running
 
 pub record SpokenAt (criteria : Criteria) (workers : ℕ) (sessions : List ScriptSessionView) (n : ℕ) (survey : Survey) (spoken : SurveySpoken) : Type 0 where
-  pub survey_is : IsSurveyOf criteria workers survey
+  pub survey_is : IsSharedSurveyOf criteria workers survey
   pub spoken_is : IsSpokenOf survey (n + 1) sessions spoken
 
 -- the eliminator with this number, counted from 0, works

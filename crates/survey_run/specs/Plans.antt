@@ -20,7 +20,7 @@ abbrev pub pass_count : ℕ → ℕ
 pass_count workers = 1 + MAX_DESKS + workers
 
 -- a survey of the model, beside so many eliminators
-pub record IsSurveyOf (criteria : Criteria) (workers : ℕ) (survey : Survey) : Type 0 where
+pub record IsSharedSurveyOf (criteria : Criteria) (workers : ℕ) (survey : Survey) : Type 0 where
   pub model : (survey_listed survey).criteria ≡ criteria
   pub listed : IsListed (survey_listed survey)
   pub weight : survey_weight survey ≡ pass_count workers
@@ -42,7 +42,7 @@ pub record IsPlanFor (survey : Survey) (respondent : ℕ) (sessions : List Scrip
 
 -- a survey and its plan, of the respondent with this number, counted from 0
 pub record PlanAt (criteria : Criteria) (workers : ℕ) (sessions : List ScriptSessionView) (n : ℕ) (survey : Survey) (plan : SurveyPlan) : Type 0 where
-  pub survey_is : IsSurveyOf criteria workers survey
+  pub survey_is : IsSharedSurveyOf criteria workers survey
   pub plan_is : IsPlanFor survey (n + 1) sessions plan
 
 -- the surveys of a script's respondents, with their plans, and the jobs of so many eliminators

@@ -13,16 +13,16 @@ pub record MessageRun : Type 0 where
   pub came : Outcome
 
 -- what the message asks, and what came of it
-abbrev pub exchange_of : MessageRun → Exchange
-exchange_of one = record { request = asked_by one.message; reply = one.came }
+abbrev pub message_exchange : MessageRun → Exchange
+message_exchange one = record { request = asked_by one.message; reply = one.came }
 
 -- the reply to the message
-abbrev pub reply_of : MessageRun → Reply
-reply_of one = reply_by one.message one.came
+abbrev pub message_reply : MessageRun → Reply
+message_reply one = reply_by one.message one.came
 
 -- what was asked, and what came of it
-abbrev pub exchanges_of : List MessageRun → List Exchange
-exchanges_of messages = map exchange_of messages
+abbrev pub message_exchanges : List MessageRun → List Exchange
+message_exchanges messages = map message_exchange messages
 
 -- a session, with what came of each of its messages
 pub record SessionRun : Type 0 where
@@ -38,7 +38,7 @@ pub record IsRunOf (session : ScriptSessionView) (run : SessionRun) : Type 0 whe
 
 -- the replies to the lines of a session, where there is this number of classes: a welcome to the hello, and the reply to each message
 abbrev pub replies_of : ℕ → SessionRun → List Reply
-replies_of classes run = Welcome classes run.desk ∷ map reply_of run.messages
+replies_of classes run = Welcome classes run.desk ∷ map message_reply run.messages
 
 -- the sessions of a respondent, in input order
 abbrev pub of_respondent : ℕ → List SessionRun → List SessionRun
@@ -50,4 +50,4 @@ of_desk desk runs = filter (λ run. run.desk == desk) runs
 
 -- all that was asked in these sessions, and what came of it, in input order
 abbrev pub all_exchanges : List SessionRun → List Exchange
-all_exchanges runs = flat_map (λ run. exchanges_of run.messages) runs
+all_exchanges runs = flat_map (λ run. message_exchanges run.messages) runs

@@ -15,7 +15,7 @@ use Rattle.survey_run.specs.declared.workers.WorkerJob.{WorkerJob}
 use Rattle.survey_run.specs.Each.{StackFrom}
 
 -- a pass of the survey that has seen nothing
-pub record IsFresh (survey : Survey) (pass : Pass) : Type 0 where
+pub record IsFreshPass (survey : Survey) (pass : Pass) : Type 0 where
   pub of : IsPassOf survey pass
   pub weight : pass_weight pass ≡ 1
   pub seen : pass_seen pass ≡ unseen
@@ -34,7 +34,7 @@ IsStack worker surveys passes = StackFrom (λ n. HasWorked worker) 0 surveys pas
 pub record IsWorkFor (criteria : Criteria) (count : ℕ) (surveys : List Survey) (worker : ℕ) (job : WorkerJob) : Type 0 where
   pub number : job.number ≡ worker
   pub is_worker : IsWorker worker
-  pub passes : AllZip IsFresh surveys job.passes.items
+  pub passes : AllZip IsFreshPass surveys job.passes.items
   pub room : count ≤ vec_capacity job.passes
   pub back : (job.back.items ≡ []) × (count ≤ vec_capacity job.back)
   pub tools : IsReserved criteria job.tools

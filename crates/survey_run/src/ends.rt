@@ -12,7 +12,7 @@ ghost use Rattle.survey_script.specs.ScriptViews.{ScriptSessionView};
 ghost use Rattle.survey_run.specs.Each.{EachFrom, EachZipFrom, StackFrom};
 ghost use Rattle.survey_run.specs.Ends.{AreNumbered, DeskPart, EndAt, Gathers, IsEndOf};
 ghost use Rattle.survey_run.specs.Joins.{IsSpokenOf, SpeechAt, SpokenAt, WorkedAt};
-ghost use Rattle.survey_run.specs.Plans.{IsSurveyOf};
+ghost use Rattle.survey_run.specs.Plans.{IsSharedSurveyOf};
 ghost use Rattle.survey_run.specs.Tops.{HasTop, LosesTop};
 
 use crate::desks::Spoken;
@@ -135,7 +135,7 @@ pub(crate) fn close_surveys(
 {
     for survey in surveys {
         let Some(one) = spoken.pop() else {
-            return Err(NoMemory);
+            unreachable!()
         };
         ends.push_reserved(close_survey(survey, one, &mut worked)?);
     }

@@ -7,10 +7,10 @@ ghost use Rattle.survey_core.specs.Legal.{IsDesk};
 ghost use Rattle.shared_survey.specs.declared.survey.Survey.{Survey as SurveySeen};
 ghost use Rattle.shared_survey.specs.Passes.{IsPassOf, desk_of, pass_seen, pass_weight};
 ghost use Rattle.survey_replies.specs.Calls.{unseen};
-ghost use Rattle.survey_run.specs.Desks.{HasNoSession, HasRoom, IsJobFor, is_at};
+ghost use Rattle.survey_run.specs.Desks.{HasNoSession, HasSessionRoom, IsJobFor, is_at};
 ghost use Rattle.survey_run.specs.Each.{EachFrom};
 ghost use Rattle.survey_run.specs.Plans.{IsPlan, IsPlanFor, JobAt};
-ghost use Rattle.survey_run.specs.Workers.{IsFresh, IsWorkFor, WorkAt};
+ghost use Rattle.survey_run.specs.Workers.{IsFreshPass, IsWorkFor, WorkAt};
 
 use crate::desks::{DeskJob, Running, Spoken};
 use crate::speaking::is_session_at;
@@ -88,7 +88,7 @@ fn session_room(
     respondent: u32,
     desk: u8,
 ) -> Result<Vec<Reply>, NoMemory>
-    ensures { IfOk result (λ room. HasRoom respondent desk session.now room) }
+    ensures { IfOk result (λ room. HasSessionRoom respondent desk session.now room) }
 {
     if is_session_at(session, respondent, desk) {
         Vec::with_capacity(alloc, session.messages().len() + 1)
@@ -104,7 +104,7 @@ fn session_rooms(
     respondent: u32,
     desk: u8,
 ) -> Result<Vec<Vec<Reply>>, NoMemory>
-    ensures { IfOk result (λ rooms. AllZip (HasRoom respondent desk) sessions.now rooms.items) }
+    ensures { IfOk result (λ rooms. AllZip (HasSessionRoom respondent desk) sessions.now rooms.items) }
 {
     let mut rooms = Vec::with_capacity(alloc, sessions.len())?;
     for session in sessions {
@@ -210,7 +210,7 @@ fn worker_job(
     })
 }
 
-/// The jobs of so many eliminators, without passes so far.
+/// The jobs of this number of eliminators, without passes so far.
 pub(crate) fn worker_jobs(
     alloc: Global,
     model: &Model,
@@ -234,7 +234,7 @@ impl WorkerJob {
     fn with_pass(mut self, pass: Pass) -> WorkerJob
         requires { length self.passes.items < vec_capacity self.passes }
         ensures { (criteria : Criteria) (count worker : ℕ) (surveys : List SurveySeen) (survey : SurveySeen) → IsWorkFor criteria count surveys worker self
-            → IsFresh survey pass → IsWorkFor criteria count (surveys ++ survey ∷ []) worker result }
+            → IsFreshPass survey pass → IsWorkFor criteria count (surveys ++ survey ∷ []) worker result }
     {
         self.passes.push_reserved(pass);
         self

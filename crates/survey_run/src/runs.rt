@@ -237,7 +237,7 @@ pub(crate) fn started(working: &[Working]) -> usize {
         .count()
 }
 
-/// Tells so many eliminators to stop.
+/// Tells this number of eliminators to stop.
 pub(crate) fn stop_all<R: Wait>(rt: &R, line: &JobEnd, count: usize) {
     for _ in 0..count {
         line.stop(rt);

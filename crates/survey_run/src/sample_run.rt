@@ -142,7 +142,7 @@ fn close_sample(survey: Survey, mut whole: Pass, pass: Pass, mut worked: Vec<Vec
     survey.close(whole);
 }
 
-/// A survey of the model, with what a sample of it needs beside so many eliminators.
+/// A survey of the model, with what a sample of it needs beside this number of eliminators.
 fn sample_ready(alloc: Global, model: &Model, workers: u32) -> Result<SampleReady, NoMemory>
     requires { workers ≤ MAX_WORKERS }
     ensures { IfOk result (λ ready. IsSampleReady model.now workers ready) }
@@ -172,7 +172,7 @@ fn sample_ready(alloc: Global, model: &Model, workers: u32) -> Result<SampleRead
     })
 }
 
-/// The sample of a seed in a survey with so many eliminators beside the desk.
+/// The sample of a seed in a survey with this number of eliminators beside the desk.
 ///
 /// # Errors
 ///
@@ -227,7 +227,7 @@ pub fn run_sample<R: Threads + Wait + Sync, G: Gate + Sync>(
         },
     );
     let Some(survey) = surveys.pop() else {
-        return Err(NoMemory);
+        unreachable!()
     };
     close_sample(survey, whole, pass, worked);
     Ok(summary)

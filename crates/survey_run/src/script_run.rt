@@ -46,7 +46,7 @@ pub(crate) struct Prepared {
     pub(crate) end_rooms: EndRooms,
 }
 
-/// Room for what so many surveys and eliminators bring back.
+/// Room for what these numbers of surveys and eliminators bring back.
 fn make_rooms(alloc: Global, surveys: usize, workers: usize) -> Result<Rooms, NoMemory>
     ensures { IfOk result (λ rooms. HasRooms surveys workers rooms) }
 {
@@ -58,7 +58,7 @@ fn make_rooms(alloc: Global, surveys: usize, workers: usize) -> Result<Rooms, No
     })
 }
 
-/// So many flags, all down.
+/// This number of flags, all down.
 pub(crate) fn make_flags(alloc: Global, count: usize) -> Result<Vec<AtomicBool>, NoMemory>
     ensures { IfOk result (λ flags. vec_len flags ≡ count) }
 {
@@ -81,7 +81,7 @@ fn count_lines(sessions: &[ScriptSession]) -> usize
     count
 }
 
-/// Room for the ends of so many surveys, and the replies to so many lines.
+/// Room for the ends of the surveys, and the replies to the lines.
 fn make_end_rooms(alloc: Global, surveys: usize, lines: usize) -> Result<EndRooms, NoMemory>
     ensures { IfOk result (λ rooms. HasEndRooms surveys lines rooms) }
 {
@@ -137,7 +137,7 @@ fn end_run(
     Ok(RunEnd::of(states, replies))
 }
 
-/// Runs the sessions of a script: those of one desk in input order, different desks at once, beside so many eliminators.
+/// Runs the sessions of a script: those of one desk in input order, different desks at once, beside this number of eliminators.
 ///
 /// All memory is taken before the first session runs, but what a withdrawal needs. A thread that can't be started is done without:
 /// the desk's sessions are held by the caller, and the eliminator is left out.

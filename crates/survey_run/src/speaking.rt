@@ -1,7 +1,7 @@
 //! What a desk says in its sessions.
 ghost use Rattle.std.specs.Prelude.{◌≡◌, ◌+◌, ◌≤◌, [], length, vec_capacity, IfOk};
 ghost use Rattle.std.specs.List.{AllZip};
-ghost use Rattle.survey_run.specs.Desks.{HasRoom, Says, SaysOne, is_at, lists_of};
+ghost use Rattle.survey_run.specs.Desks.{HasSessionRoom, SaysAll, SaysOne, is_at, lists_of};
 
 use json_forms::{NoMemory, Reply};
 use session_protocol::handle_message;
@@ -57,7 +57,7 @@ fn speak_in<R: Respondent>(
     requires waits { R.can_wait }
     requires classes { classes ≡ length (R.listed (R.about respondent.old)).classes }
     requires desk { desk ≡ R.desk (R.about respondent.old) }
-    requires room { HasRoom number desk session.now room }
+    requires room { HasSessionRoom number desk session.now room }
     ensures said { IfOk result (λ replies. SaysOne (R.listed (R.about respondent.old)) number desk
         (R.seen respondent.old) (R.seen respondent.new) session.now replies.items) }
     ensures same { R.about respondent.new ≡ R.about respondent.old }
@@ -85,9 +85,9 @@ pub(crate) fn speak_all<R: Respondent>(
     requires waits { R.can_wait }
     requires classes { classes ≡ length (R.listed (R.about respondent.old)).classes }
     requires desk { desk ≡ R.desk (R.about respondent.old) }
-    requires rooms { AllZip (HasRoom number desk) sessions.now rooms.items }
+    requires rooms { AllZip (HasSessionRoom number desk) sessions.now rooms.items }
     requires told { (told.items ≡ []) × (length sessions.now ≤ vec_capacity told) }
-    ensures said { IfOk result (λ told. Says (R.listed (R.about respondent.old)) number desk
+    ensures said { IfOk result (λ told. SaysAll (R.listed (R.about respondent.old)) number desk
         (R.seen respondent.old) (R.seen respondent.new) sessions.now (lists_of told)) }
     ensures same { R.about respondent.new ≡ R.about respondent.old }
 {

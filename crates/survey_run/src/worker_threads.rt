@@ -5,7 +5,7 @@ ghost use Rattle.eliminators.specs.Jobs.{IsWorker};
 ghost use Rattle.std.specs.Thread.{IsSync};
 ghost use Rattle.shared_survey.specs.declared.survey.Survey.{Survey as SurveySeen};
 ghost use Rattle.shared_survey.specs.Passes.{survey_listed};
-ghost use Rattle.survey_run.specs.Workers.{HasWorkedAt, HoldsFresh, IsFresh, IsStack, IsWorkFor};
+ghost use Rattle.survey_run.specs.Workers.{HasWorkedAt, HoldsFresh, IsFreshPass, IsStack, IsWorkFor};
 ghost use Rattle.survey_run.specs.WorkerRuns.{WorksFor};
 
 use crate::workers::{WorkerJob, WorkerPromise, Working};
@@ -22,7 +22,7 @@ use std::thread::{Scope, Threads};
 /// The passes with the first on top.
 fn turned(mut passes: Vec<Pass>, mut back: Vec<Pass>) -> Vec<Pass>
     requires room { (back.items ≡ []) × (vec_len passes ≤ vec_capacity back) }
-    ensures { (worker : ℕ) (surveys : List SurveySeen) → AllZip IsFresh surveys passes.items → IsStack worker surveys result }
+    ensures { (worker : ℕ) (surveys : List SurveySeen) → AllZip IsFreshPass surveys passes.items → IsStack worker surveys result }
 {
     for _place in 0..passes.len() {
         let Some(pass) = passes.pop() else {
@@ -42,7 +42,7 @@ fn hold_all<'s, R: Wait + Sync>(
     mut benches: Benches<SurveyBench<'s, R>>,
 ) -> Benches<SurveyBench<'s, R>>
     requires number { IsWorker number }
-    requires passes { AllZip IsFresh surveys.now.items passes.items }
+    requires passes { AllZip IsFreshPass surveys.now.items passes.items }
     requires empty { benches.list.items ≡ [] }
     requires room { vec_len surveys.now ≤ vec_capacity benches.list }
     ensures { AllZip (HoldsFresh number) surveys.now.items result.list.items }

@@ -23,7 +23,7 @@ use Rattle.survey_core.proofs.ListSteps.{All-Each, Each, Each-All, Each-map}
 use Rattle.survey_replies.specs.Calls.{IsReplyIn}
 use Rattle.survey_run.specs.RunViews.{RunView}
 use Rattle.survey_run.specs.Runs.{IsRunBy, IsSurveyRun, count_of}
-use Rattle.survey_run.specs.Sessions.{IsRunOf, MessageRun, SessionRun, of_respondent, replies_of, reply_of}
+use Rattle.survey_run.specs.Sessions.{IsRunOf, MessageRun, SessionRun, message_reply, of_respondent, replies_of}
 use Rattle.survey_run.proofs.LawLemmas.{each_reply_stands_lem}
 use Rattle.survey_script.specs.ScriptViews.{IsWholeScript, IsWholeSession, ScriptSessionView, ScriptView}
 use Rattle.survey_server.specs.ScriptTexts.{AreWritable, EachHasReplies, session_lines, replies_text, session_text, sessions_text, text_by_lines}
@@ -125,7 +125,7 @@ welcome_writable state classes desk = record { writable = tt; within = λ count 
 
 each_writable : (state : Surveyed) (desk : ℕ) (messages : List MessageRun)
     → Each (λ (one : MessageRun). IsReplyIn state.listed desk state.journal (asked_by one.message) one.came) messages
-    → Each (CanBeWritten state.listed state.journal) (map reply_of messages)
+    → Each (CanBeWritten state.listed state.journal) (map message_reply messages)
 each_writable state desk [] each = tt
 each_writable state desk (one ∷ messages) each =
     (can_be_written state.listed desk state.journal one.message one.came each.0, each_writable state desk messages each.1)
@@ -145,7 +145,7 @@ session_writable criteria states classes run h =
 -- ---- by lines
 as_many : (classes : ℕ) (session : ScriptSessionView) (run : SessionRun) → IsRunOf session run → length (replies_of classes run) ≡ session_lines session
 as_many classes session run is =
-    let one : length (map reply_of run.messages) ≡ length run.messages = length-map run.messages reply_of in
+    let one : length (map message_reply run.messages) ≡ length run.messages = length-map run.messages message_reply in
     let other : length (map (λ (m : MessageRun). m.message) run.messages) ≡ length run.messages = length-map run.messages (λ (m : MessageRun). m.message) in
     let same : length (map (λ (m : MessageRun). m.message) run.messages) ≡ length session.messages = ap (λ (ms : List (Option Message)). length ms) is.messages in
     omega (arith, one, other, same)

@@ -1,7 +1,7 @@
 use Rattle.std.proofs.Common.{◌≡◌, ◌∙◌, ◌+◌, [], ◌∷◌, ◌++◌, ap, rules, arith, length}
 use Rattle.std.specs.Prelude.{vec_len}
 use Rattle.survey_replies.specs.Calls.{Seen}
-use Rattle.survey_run.specs.Workers.{IsFresh, WorkAt}
+use Rattle.survey_run.specs.Workers.{IsFreshPass, WorkAt}
 use Rattle.survey_run.proofs.EachLemmas.{each_push}
 use Rattle.survey_run.proofs.plans.give_passes.Goals as goal
 
@@ -13,7 +13,7 @@ loop-job-preserved c =
     let made = c.worker_pass-pass.ensures.new in
     let from = c.worker_pass-pass.ensures.from in
     let seen = c.worker_pass-pass.ensures.seen in
-    let fresh : IsFresh survey c.worker_pass-pass.result = record {
+    let fresh : IsFreshPass survey c.worker_pass-pass.result = record {
       of = made.0;
       weight = made.1;
       seen = seen.1 ∙ ap (λ (s : Seen). record { journal = s.journal; own = [] }) inv.seen;

@@ -2,7 +2,7 @@ use Rattle.std.proofs.Common.{◌≡◌, ◌∙◌, ◌+◌, ◌<◌, List, ap, 
 use Rattle.std.specs.Prelude.{vec_len}
 use Rattle.json_forms.specs.DefinitionViews.{model_of}
 use Rattle.survey_script.specs.ScriptViews.{ScriptSessionView}
-use Rattle.survey_run.specs.Plans.{IsPlanFor, IsSurveyOf, PlanAt}
+use Rattle.survey_run.specs.Plans.{IsPlanFor, IsSharedSurveyOf, PlanAt}
 use Rattle.survey_run.proofs.EachLemmas.{zip_push}
 use Rattle.survey_run.proofs.PlanLemmas.{rooms_of}
 use Rattle.survey_run.proofs.plans.plan_run.Goals as goal
@@ -23,7 +23,7 @@ loop-place-preserved c =
     let place = c.loop-place.place in
     let surveys = c.loop-place.surveys in
     let long : 0 + length surveys.items ≡ place = search rules in
-    let survey_is : IsSurveyOf model c.args.workers survey = record {
+    let survey_is : IsSharedSurveyOf model c.args.workers survey = record {
       model = c.in_ok-survey.ensures.listed.0 ∙ (c.model-model.ensures ∙ ap model_of c.definition.ensures);
       listed = c.in_ok-survey.ensures.listed.1;
       weight = omega (arith, c.in_ok-survey.ensures.weight.0, c.from.ensures);

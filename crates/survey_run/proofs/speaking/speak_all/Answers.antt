@@ -1,7 +1,7 @@
 use Rattle.std.proofs.Common.{◌≡◌, ◌∙◌, suc, refl, rules, arith, length}
 use Rattle.std.specs.Prelude.{vec_len}
 use Rattle.survey_core.proofs.ListSteps.{take_whole}
-use Rattle.survey_run.specs.Desks.{HasRoom}
+use Rattle.survey_run.specs.Desks.{HasSessionRoom}
 use Rattle.survey_run.proofs.EachLemmas.{all_zip_at, all_zip_length}
 use Rattle.survey_run.proofs.SayLemmas.{says_begun, says_more}
 use Rattle.survey_run.proofs.speaking.speak_all.Goals as goal
@@ -14,7 +14,7 @@ loop-room-init g c =
       says = says_begun (g.R.Events.listed a) c.args.number c.args.desk (g.R.Events.seen c.args.respondent.now) c.args.sessions.now c.args.told c.requires.told.0 zero;
       rooms = rw (zero, c.into_iter-room-iterator.ensures.into_iter_gives.0) c.requires.rooms;
       count =
-          let long = all_zip_length (HasRoom c.args.number c.args.desk) c.args.sessions.now c.args.rooms.items c.requires.rooms in
+          let long = all_zip_length (HasSessionRoom c.args.number c.args.desk) c.args.sessions.now c.args.rooms.items c.requires.rooms in
           let items : vec_len c.args.rooms ≡ length c.args.rooms.items = search rules in
           omega (arith, zero, long, items, c.into_iter-room-iterator.ensures.into_iter_gives.1);
       capacity = c.requires.told.1;
@@ -28,7 +28,7 @@ loop-room-preserved g c =
     let told = c.loop-room.told in
     let new = c.push_reserved.new.self in
     let session = c.index-sessions-len.result in
-    let front = all_zip_at (HasRoom c.args.number c.args.desk) c.args.sessions.now (vec_len told) session c.in-Some.room _ (rw c.len.ensures at c.index-sessions-len.is)
+    let front = all_zip_at (HasSessionRoom c.args.number c.args.desk) c.args.sessions.now (vec_len told) session c.in-Some.room _ (rw c.len.ensures at c.index-sessions-len.is)
     (rw c.in-Some.ensures.steps.0 at inv.rooms) in
     let longer : vec_len new ≡ suc (vec_len told) = search rules in
     record {

@@ -2,14 +2,14 @@ use Rattle.std.proofs.Common.{◌≡◌, ◌∙◌, ◌+◌, suc, [], length, ta
 use Rattle.std.specs.Prelude.{vec_len}
 use Rattle.std.specs.List.{AllZip}
 use Rattle.survey_replies.specs.Calls.{Seen}
-use Rattle.survey_run.specs.Workers.{HoldsFresh, IsFresh}
+use Rattle.survey_run.specs.Workers.{HoldsFresh, IsFreshPass}
 use Rattle.survey_run.proofs.WorkerLemmas.{about_fresh}
 use Rattle.survey_run.proofs.EachLemmas.{all_zip_at, all_zip_length, all_zip_push, pop_length, take_one_more}
 use Rattle.survey_run.proofs.worker_threads.hold_all.Goals as goal
 
 pub loop-pass-init : goal.loop-pass-init
 loop-pass-init g c =
-    let long = all_zip_length IsFresh c.args.surveys.now.items c.args.passes.items c.requires.passes in
+    let long = all_zip_length IsFreshPass c.args.surveys.now.items c.args.passes.items c.requires.passes in
     let a : vec_len c.args.passes ≡ length c.args.passes.items = search rules in
     let b : vec_len c.args.surveys.now ≡ length c.args.surveys.now.items = search rules in
     record {
@@ -27,7 +27,7 @@ loop-pass-preserved g c =
     let place = c.loop-pass.place in
     let survey = c.index.result.now in
     let bench = c.hold.result in
-    let front = all_zip_at IsFresh surveys place survey c.in-Some.pass _ c.index.ensures (rw c.in-Some.ensures.steps.0 at inv.passes) in
+    let front = all_zip_at IsFreshPass surveys place survey c.in-Some.pass _ c.index.ensures (rw c.in-Some.ensures.steps.0 at inv.passes) in
     let made : HoldsFresh c.args.number survey bench = record {
       about = c.hold.ensures.about ∙ about_fresh survey c.args.number _ _ front.1.weight (ap (λ (s : Seen). s.own) front.1.seen);
       seen = c.hold.ensures.seen ∙ front.1.seen;

@@ -1,7 +1,7 @@
 use Rattle.std.proofs.Common.{◌≡◌, List, [], ◌∷◌, ◌++◌, length, sym, subst, rules, arith}
 use Rattle.std.specs.Prelude.{vec_len}
 use Rattle.shared_survey.specs.declared.pass.Pass.{Pass}
-use Rattle.survey_run.specs.Workers.{HasWorked, IsFresh}
+use Rattle.survey_run.specs.Workers.{HasWorked, IsFreshPass}
 use Rattle.survey_run.proofs.EachLemmas.{IsPartStacked, all_stacked, all_zip_from, nil_of_length, none_stacked, one_more_stacked, pop_length}
 use Rattle.survey_run.proofs.WorkerLemmas.{fresh_worked}
 use Rattle.survey_run.proofs.worker_threads.turned.Goals as goal
@@ -10,8 +10,8 @@ pub loop-place-init : goal.loop-place-init
 loop-place-init c =
     let zero : vec_len c.args.back ≡ 0 = search rules in
     record {
-      stacked = λ worker surveys each. subst (λ (back : List Pass). IsPartStacked (λ n. IsFresh) (λ n. HasWorked worker) surveys c.args.passes.items back) (sym c.requires.room.0)
-          (none_stacked (λ n. IsFresh) (λ n. HasWorked worker) surveys c.args.passes.items (all_zip_from IsFresh 0 surveys c.args.passes.items each));
+      stacked = λ worker surveys each. subst (λ (back : List Pass). IsPartStacked (λ n. IsFreshPass) (λ n. HasWorked worker) surveys c.args.passes.items back) (sym c.requires.room.0)
+          (none_stacked (λ n. IsFreshPass) (λ n. HasWorked worker) surveys c.args.passes.items (all_zip_from IsFreshPass 0 surveys c.args.passes.items each));
       count = omega arith;
       room = omega (arith, zero, c.requires.room.1);
     }
@@ -27,9 +27,9 @@ loop-place-preserved c =
     let a : vec_len old ≡ length old.items = search rules in
     let b : vec_len new ≡ length new.items = search rules in
     record {
-      stacked = λ worker surveys each. subst (λ (back : List Pass). IsPartStacked (λ n. IsFresh) (λ n. HasWorked worker) surveys new.items back) (sym c.push_reserved.ensures.items)
-          (one_more_stacked (λ n. IsFresh) (λ n. HasWorked worker) surveys new.items c.loop-place.back.items pass pass (λ n survey. fresh_worked worker survey pass)
-          (subst (λ (left : List Pass). IsPartStacked (λ n. IsFresh) (λ n. HasWorked worker) surveys left c.loop-place.back.items) items (inv.stacked worker surveys each)));
+      stacked = λ worker surveys each. subst (λ (back : List Pass). IsPartStacked (λ n. IsFreshPass) (λ n. HasWorked worker) surveys new.items back) (sym c.push_reserved.ensures.items)
+          (one_more_stacked (λ n. IsFreshPass) (λ n. HasWorked worker) surveys new.items c.loop-place.back.items pass pass (λ n survey. fresh_worked worker survey pass)
+          (subst (λ (left : List Pass). IsPartStacked (λ n. IsFreshPass) (λ n. HasWorked worker) surveys left c.loop-place.back.items) items (inv.stacked worker surveys each)));
       count = omega (arith, inv.count, shorter, a, b);
       room = omega (arith, inv.room, shorter, a, b, c.push_reserved.ensures.len, c.push_reserved.ensures.capacity);
     }
@@ -40,4 +40,4 @@ returns c =
     let left = c.loop-place.passes in
     let a : vec_len left ≡ length left.items = search rules in
     let none : length left.items ≡ 0 = omega (arith, inv.count, a, c.loop-place-test.false, c.len-place-end.ensures) in
-    λ worker surveys each. all_stacked (λ n. IsFresh) (λ n. HasWorked worker) surveys left.items c.loop-place.back.items (nil_of_length left.items none) (inv.stacked worker surveys each)
+    λ worker surveys each. all_stacked (λ n. IsFreshPass) (λ n. HasWorked worker) surveys left.items c.loop-place.back.items (nil_of_length left.items none) (inv.stacked worker surveys each)

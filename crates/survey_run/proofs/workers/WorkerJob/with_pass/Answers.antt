@@ -1,7 +1,7 @@
 use Rattle.std.proofs.Common.{◌++◌, ◌∷◌, [], List, sym, subst, arith}
 use Rattle.std.specs.List.{AllZip}
 use Rattle.shared_survey.specs.declared.pass.Pass.{Pass}
-use Rattle.survey_run.specs.Workers.{IsFresh}
+use Rattle.survey_run.specs.Workers.{IsFreshPass}
 use Rattle.survey_run.proofs.EachLemmas.{all_zip_push}
 use Rattle.survey_run.proofs.workers.WorkerJob.with_pass.Goals as goal
 
@@ -9,8 +9,8 @@ pub returns : goal.returns
 returns c = λ criteria count worker surveys survey job fresh. record {
   number = job.number;
   is_worker = job.is_worker;
-  passes = subst (λ (passes : List Pass). AllZip IsFresh (surveys ++ survey ∷ []) passes) (sym c.push_reserved.ensures.items)
-      (all_zip_push IsFresh surveys c.args.self.passes.items survey c.args.pass job.passes fresh);
+  passes = subst (λ (passes : List Pass). AllZip IsFreshPass (surveys ++ survey ∷ []) passes) (sym c.push_reserved.ensures.items)
+      (all_zip_push IsFreshPass surveys c.args.self.passes.items survey c.args.pass job.passes fresh);
   room = omega (arith, job.room, c.push_reserved.ensures.capacity);
   back = job.back;
   tools = job.tools;
