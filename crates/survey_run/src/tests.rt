@@ -34,16 +34,42 @@ const BYE: &[u8] = b"{\"ask\":\"bye\"}\n";
 
 const LEFT_1: &[u8] = b"{\"answer\":{\"question\":1,\"side\":\"left\"}}\n";
 
+const LEFT_2: &[u8] = b"{\"answer\":{\"question\":2,\"side\":\"left\"}}\n";
+
+const LEFT_3: &[u8] = b"{\"answer\":{\"question\":3,\"side\":\"left\"}}\n";
+
+const LEFT_4: &[u8] = b"{\"answer\":{\"question\":4,\"side\":\"left\"}}\n";
+
 const WELCOME_6: &[u8] = b"{\"welcome\":{\"classes\":6,\"desk\":1}}\n";
 
 const QUESTION_1: &[u8] = b"{\"question\":{\"left\":[2,1,0],\"number\":1,\"right\":[1,2,0]}}\n";
 
 const QUESTION_2: &[u8] = b"{\"question\":{\"left\":[2,0,1],\"number\":2,\"right\":[1,0,2]}}\n";
 
+const QUESTION_3: &[u8] = b"{\"question\":{\"left\":[0,2,1],\"number\":3,\"right\":[0,1,2]}}\n";
+
+const QUESTION_4: &[u8] = b"{\"question\":{\"left\":[2,1,1],\"number\":4,\"right\":[1,2,2]}}\n";
+
+const WELCOME_3: &[u8] = b"{\"welcome\":{\"classes\":3,\"desk\":1}}\n";
+
+const FIRST_OF_3: &[u8] = b"{\"question\":{\"left\":[2,1],\"number\":1,\"right\":[1,2]}}\n";
+
+const THIRD_OF_3: &[u8] = b"{\"question\":{\"left\":[3,1],\"number\":2,\"right\":[2,2]}}\n";
+
+const ACCEPTED_1: &[u8] = b"{\"accepted\":1}\n";
+
+const ACCEPTED_2: &[u8] = b"{\"accepted\":2}\n";
+
+const ACCEPTED_3: &[u8] = b"{\"accepted\":3}\n";
+
+const ACCEPTED_4: &[u8] = b"{\"accepted\":4}\n";
+
+const NO_MESSAGE: &[u8] = b"{\"refused\":\"message\"}\n";
+
 const SAID_BYE: &[u8] = b"{\"bye\":true}\n";
 
-/// What the script of these lines leaves, beside so many eliminators.
-fn run_of<R: Threads + Wait + Sync, G: Gate + Sync>(
+/// What the script of these lines leaves, beside this number of eliminators.
+fn run_lines<R: Threads + Wait + Sync, G: Gate + Sync>(
     rt: &R,
     alloc: Global,
     lines: &[&[u8]],
@@ -97,43 +123,46 @@ fn says(alloc: Global, end: &RunEnd, model: &Model, lines: &[&[u8]]) -> Result<b
     Ok(said.as_slice() == wanted.as_slice())
 }
 
-/// Scripts in which each respondent has one desk: no eliminator changes a reply, and sessions of a desk go on in input order.
+/// Whether the script of these lines leaves these replies, beside 0 to 4 eliminators.
+fn are_replies<R: Threads + Wait + Sync>(
+    rt: &R,
+    alloc: Global,
+    lines: &[&[u8]],
+    replies: &[&[u8]],
+) -> Result<bool, Fail> {
+    for workers in 0..5u32 {
+        let (end, model) = run_lines(rt, alloc, lines, workers, &OpenGate)?;
+        if !says(alloc, &end, &model, replies)? {
+            return Ok(false);
+        }
+    }
+    Ok(true)
+}
+
+/// Sessions at one desk: questions in order, and each reply to an answer, a withdrawal and a line that is no message.
 #[test]
-fn scripts_of_one_desk(rt: HostRuntime) -> Result<(), Fail> {
-    let rows: [(&[&[u8]], &[&[u8]]); 7] = [
-        // No session.
-        (&[M3], &[]),
+fn session_of_one_desk(rt: HostRuntime) -> Result<(), Fail> {
+    let rows: [(&[&[u8]], &[&[u8]]); 4] = [
         // Always left: the first four classes are asked.
         (
             &[
-                M3,
-                HELLO,
-                NEXT,
-                LEFT_1,
-                NEXT,
-                b"{\"answer\":{\"question\":2,\"side\":\"left\"}}\n",
-                NEXT,
-                b"{\"answer\":{\"question\":3,\"side\":\"left\"}}\n",
-                NEXT,
-                b"{\"answer\":{\"question\":4,\"side\":\"left\"}}\n",
-                NEXT,
-                BYE,
+                M3, HELLO, NEXT, LEFT_1, NEXT, LEFT_2, NEXT, LEFT_3, NEXT, LEFT_4, NEXT, BYE,
             ],
             &[
                 WELCOME_6,
                 QUESTION_1,
-                b"{\"accepted\":1}\n",
+                ACCEPTED_1,
                 QUESTION_2,
-                b"{\"accepted\":2}\n",
-                b"{\"question\":{\"left\":[0,2,1],\"number\":3,\"right\":[0,1,2]}}\n",
-                b"{\"accepted\":3}\n",
-                b"{\"question\":{\"left\":[2,1,1],\"number\":4,\"right\":[1,2,2]}}\n",
-                b"{\"accepted\":4}\n",
+                ACCEPTED_2,
+                QUESTION_3,
+                ACCEPTED_3,
+                QUESTION_4,
+                ACCEPTED_4,
                 b"{\"complete\":true}\n",
                 SAID_BYE,
             ],
         ),
-        // An open question that other answers rank, a closed one, one that nobody asked, and the last answer taken back.
+        // Four open questions, one that other answers rank, a closed one, one that nobody asked, and the last answer taken back.
         (
             &[
                 M3,
@@ -141,66 +170,56 @@ fn scripts_of_one_desk(rt: HostRuntime) -> Result<(), Fail> {
                 NEXT,
                 NEXT,
                 NEXT,
+                NEXT,
+                NEXT,
                 LEFT_1,
-                b"{\"answer\":{\"question\":3,\"side\":\"left\"}}\n",
-                b"{\"answer\":{\"question\":2,\"side\":\"left\"}}\n",
+                LEFT_3,
+                LEFT_2,
                 LEFT_1,
                 b"{\"answer\":{\"question\":99,\"side\":\"left\"}}\n",
                 b"{\"ask\":\"withdraw\"}\n",
-                b"{\"answer\":{\"question\":2,\"side\":\"left\"}}\n",
+                LEFT_2,
                 BYE,
             ],
             &[
                 WELCOME_6,
                 QUESTION_1,
                 QUESTION_2,
-                b"{\"question\":{\"left\":[0,2,1],\"number\":3,\"right\":[0,1,2]}}\n",
-                b"{\"accepted\":1}\n",
-                b"{\"accepted\":3}\n",
+                QUESTION_3,
+                QUESTION_4,
+                b"{\"full\":true}\n",
+                ACCEPTED_1,
+                ACCEPTED_3,
                 b"{\"implied\":{\"combination\":{\"answers\":[[1,\"1\"],[2,\"1\"]],\"increments\":[\"0\",\"0\",\"0\"],\"scale\":\"1\"},\"question\":2,\"verdict\":\"left\"}}\n",
                 b"{\"closed\":1}\n",
                 b"{\"unknown\":99}\n",
                 b"{\"withdrawn\":{\"answer\":2,\"question\":3}}\n",
-                b"{\"accepted\":2}\n",
-                SAID_BYE,
-            ],
-        ),
-        // Four questions are open.
-        (
-            &[M3, HELLO, NEXT, NEXT, NEXT, NEXT, NEXT, BYE],
-            &[
-                WELCOME_6,
-                QUESTION_1,
-                QUESTION_2,
-                b"{\"question\":{\"left\":[0,2,1],\"number\":3,\"right\":[0,1,2]}}\n",
-                b"{\"question\":{\"left\":[2,1,1],\"number\":4,\"right\":[1,2,2]}}\n",
-                b"{\"full\":true}\n",
+                ACCEPTED_2,
                 SAID_BYE,
             ],
         ),
         // The answer ranks the second class.
         (
             &[M32, HELLO, NEXT, LEFT_1, NEXT, BYE],
-            &[
-                b"{\"welcome\":{\"classes\":3,\"desk\":1}}\n",
-                b"{\"question\":{\"left\":[2,1],\"number\":1,\"right\":[1,2]}}\n",
-                b"{\"accepted\":1}\n",
-                b"{\"question\":{\"left\":[3,1],\"number\":2,\"right\":[2,2]}}\n",
-                SAID_BYE,
-            ],
+            &[WELCOME_3, FIRST_OF_3, ACCEPTED_1, THIRD_OF_3, SAID_BYE],
         ),
         // Lines that are no messages.
         (
             &[M3, HELLO, b"hi\n", b"{}\n", NEXT, BYE],
-            &[
-                WELCOME_6,
-                b"{\"refused\":\"message\"}\n",
-                b"{\"refused\":\"message\"}\n",
-                QUESTION_1,
-                SAID_BYE,
-            ],
+            &[WELCOME_6, NO_MESSAGE, NO_MESSAGE, QUESTION_1, SAID_BYE],
         ),
-        // Three sessions of two respondents: each has a survey of its own, and goes on where it was.
+    ];
+    for (lines, replies) in &rows {
+        assert!(rt; are_replies(&rt, rt.alloc(), *lines, *replies)?);
+    }
+    Ok(())
+}
+
+/// No session, and three of two respondents: each has a survey of its own, and goes on where it was.
+#[test]
+fn sessions_of_two_respondents(rt: HostRuntime) -> Result<(), Fail> {
+    let rows: [(&[&[u8]], &[&[u8]]); 2] = [
+        (&[M3], &[]),
         (
             &[
                 M3, HELLO, NEXT, BYE, HELLO_BEN, NEXT, LEFT_1, NEXT, BYE, HELLO, LEFT_1, LEFT_1,
@@ -212,23 +231,36 @@ fn scripts_of_one_desk(rt: HostRuntime) -> Result<(), Fail> {
                 SAID_BYE,
                 b"{\"welcome\":{\"classes\":6,\"desk\":3}}\n",
                 QUESTION_1,
-                b"{\"accepted\":1}\n",
+                ACCEPTED_1,
                 QUESTION_2,
                 SAID_BYE,
                 WELCOME_6,
-                b"{\"accepted\":1}\n",
+                ACCEPTED_1,
                 b"{\"closed\":1}\n",
                 SAID_BYE,
             ],
         ),
     ];
     for (lines, replies) in &rows {
-        for workers in 0..5u32 {
-            let (end, model) = run_of(&rt, rt.alloc(), *lines, workers, &OpenGate)?;
-            assert!(rt; says(rt.alloc(), &end, &model, *replies)?);
-        }
+        assert!(rt; are_replies(&rt, rt.alloc(), *lines, *replies)?);
     }
     Ok(())
+}
+
+/// Whoever comes by `at` waits for `until`.
+fn hold(at: GatePoint, until: GatePoint) -> Hold {
+    Hold { at, until }
+}
+
+/// Holds desk 1's second question until eliminator 1 handed in that class 2 is ranked.
+fn until_hand_in() -> [Hold; 2] {
+    let begins = GatePoint::NextBegins { desk: 1 };
+    let handed_in = GatePoint::HandedIn {
+        worker: 1,
+        place: 2,
+        eliminated: true,
+    };
+    [hold(begins, begins), hold(begins, handed_in)]
 }
 
 /// Each of two desks asks only once the other is about to: they are served at once, and get the first two questions.
@@ -236,19 +268,10 @@ fn scripts_of_one_desk(rt: HostRuntime) -> Result<(), Fail> {
 fn desks_at_once(rt: HostRuntime) -> Result<(), Fail> {
     let first = GatePoint::NextBegins { desk: 1 };
     let second = GatePoint::NextBegins { desk: 2 };
-    let holds = [
-        Hold {
-            at: first,
-            until: second,
-        },
-        Hold {
-            at: second,
-            until: first,
-        },
-    ];
+    let holds = [hold(first, second), hold(second, first)];
     let gate = ScriptGate::new(rt.alloc(), &holds)?;
     let lines = [M3, HELLO, NEXT, BYE, HELLO_2, NEXT, BYE];
-    let (end, model) = run_of(&rt, rt.alloc(), &lines, 0, &gate)?;
+    let (end, model) = run_lines(&rt, rt.alloc(), &lines, 0, &gate)?;
     assert!(rt; !gate.missed());
     let welcome = b"{\"welcome\":{\"classes\":6,\"desk\":2}}\n";
     let orders = [
@@ -287,25 +310,9 @@ fn third_worker(end: &RunEnd) -> Option<u8> {
 /// The second question waits until an eliminator handed in the class that the answer ranks.
 #[test]
 fn session_waits_for_hand_in(rt: HostRuntime) -> Result<(), Fail> {
-    let begins = GatePoint::NextBegins { desk: 1 };
-    let handed_in = GatePoint::HandedIn {
-        worker: 1,
-        place: 2,
-        eliminated: true,
-    };
-    let holds = [
-        Hold {
-            at: begins,
-            until: begins,
-        },
-        Hold {
-            at: begins,
-            until: handed_in,
-        },
-    ];
-    let gate = ScriptGate::new(rt.alloc(), &holds)?;
+    let gate = ScriptGate::new(rt.alloc(), &until_hand_in())?;
     let lines = [M32, HELLO, NEXT, LEFT_1, NEXT, BYE];
-    let (end, _model) = run_of(&rt, rt.alloc(), &lines, 1, &gate)?;
+    let (end, _model) = run_lines(&rt, rt.alloc(), &lines, 1, &gate)?;
     assert!(rt; !gate.missed());
     assert!(rt; third_worker(&end) == Some(1));
     Ok(())
@@ -319,26 +326,20 @@ fn solve_outside_turn(rt: HostRuntime) -> Result<(), Fail> {
         place: 2,
     };
     let holds = [
-        Hold {
-            at: GatePoint::NextBegins { desk: 2 },
-            until: taken,
-        },
-        Hold {
-            at: taken,
-            until: GatePoint::NextAnswered { desk: 2 },
-        },
+        hold(GatePoint::NextBegins { desk: 2 }, taken),
+        hold(taken, GatePoint::NextAnswered { desk: 2 }),
     ];
     let gate = ScriptGate::new(rt.alloc(), &holds)?;
     let lines = [M32, HELLO, NEXT, LEFT_1, BYE, HELLO_2, NEXT, BYE];
-    let (end, model) = run_of(&rt, rt.alloc(), &lines, 1, &gate)?;
+    let (end, model) = run_lines(&rt, rt.alloc(), &lines, 1, &gate)?;
     assert!(rt; !gate.missed());
     let replies = [
-        b"{\"welcome\":{\"classes\":3,\"desk\":1}}\n" as &[u8],
-        b"{\"question\":{\"left\":[2,1],\"number\":1,\"right\":[1,2]}}\n",
-        b"{\"accepted\":1}\n",
+        WELCOME_3,
+        FIRST_OF_3,
+        ACCEPTED_1,
         SAID_BYE,
         b"{\"welcome\":{\"classes\":3,\"desk\":2}}\n",
-        b"{\"question\":{\"left\":[3,1],\"number\":2,\"right\":[2,2]}}\n",
+        THIRD_OF_3,
         SAID_BYE,
     ];
     assert!(rt; says(rt.alloc(), &end, &model, &replies)?);
@@ -391,23 +392,7 @@ fn samples_beside_eliminators(rt: HostRuntime) -> Result<(), Fail> {
 /// A sample's second question waits until an eliminator handed in the class that the answer ranks: eliminators work.
 #[test]
 fn sample_waits_for_hand_in(rt: HostRuntime) -> Result<(), Fail> {
-    let begins = GatePoint::NextBegins { desk: 1 };
-    let handed_in = GatePoint::HandedIn {
-        worker: 1,
-        place: 2,
-        eliminated: true,
-    };
-    let holds = [
-        Hold {
-            at: begins,
-            until: begins,
-        },
-        Hold {
-            at: begins,
-            until: handed_in,
-        },
-    ];
-    let gate = ScriptGate::new(rt.alloc(), &holds)?;
+    let gate = ScriptGate::new(rt.alloc(), &until_hand_in())?;
     let model = Model::new(&[3, 2], 2).ok().ok_or("model")?;
     let summary = run_sample(&rt, rt.alloc(), 1, 1, &model, &gate)?;
     assert!(rt; !gate.missed());
