@@ -129,9 +129,12 @@ def verdict(result):
     return line.strip()
 
 
-def judge_journal(told, results):
+def judge_journal(shape, told, results):
     """The results of a respondent are beginnings of one journal, and the longest has what each desk was told, in order."""
-    journals = sorted((result.split("\n")[2:-2] for result in results), key=len)
+    levels, degree = shape
+    head = f"paprika result 2\nmodel {','.join(map(str, levels))} degree {degree}\n"
+    assert all(result.startswith(head) for result in results)
+    journals = sorted((result.removeprefix(head).split("\n")[:-2] for result in results), key=len)
     longest = journals[-1]
     assert all(journal == longest[: len(journal)] for journal in journals)
     for desk, wanted in told.items():
@@ -158,7 +161,7 @@ def judge(shape, sessions, text, counts):
         counts["compared"] += len(replies) if alone else 0
     for who, texts in results.items():
         counts.update(verdict(result) for result in texts)
-        judge_journal(told.get(who, {}), texts)
+        judge_journal(shape, told.get(who, {}), texts)
 
 
 def main():
