@@ -15,6 +15,7 @@ use Rattle.survey_core.specs.Legal.{IsLegal}
 use Rattle.survey_replies.specs.Calls.{Seen, unseen, HasEliminateOf, Conversation, occurrences}
 use Rattle.survey_replies.specs.JournalLaws.{DeskRun, WorkerRun, MakesJournal}
 use Rattle.survey_replies.proofs.CallLemmas.{prefix_trans, has_longer}
+use Rattle.result_file.proofs.ListEnds.{snoc_once}
 use Rattle.turn_lock.specs.Rule.{AreAllPlaces, one_between}
 use Rattle.shared_survey.specs.declared.survey.Survey.{Survey}
 use Rattle.shared_survey.specs.declared.pass.Pass.{Pass}

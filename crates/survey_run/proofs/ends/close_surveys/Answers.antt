@@ -21,6 +21,13 @@ loop-survey-init c =
       closed = λ criteria sessions stack. (rw (none, all) stack, [], sym none, rw c.requires.room.0 tt);
     }
 
+pub unreachable-requires : goal.unreachable-requires
+unreachable-requires c =
+    let given = c.requires.spoken in
+    let stack = rw c.in-Some.ensures.steps.0 at (c.loop-survey.invariant.closed given.0 given.1 given.2).0 in
+    let none : length c.loop-survey.spoken.items ≡ 0 = search rules in
+    omega (arith, none, ap {B = ℕ} length stack.2, length-append stack.0 (stack.1 ∷ []))
+
 pub close_survey-requires-clause-spoken : goal.close_survey-requires-clause-spoken
 close_survey-requires-clause-spoken c =
     let inv = c.loop-survey.invariant in
