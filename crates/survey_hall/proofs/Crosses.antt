@@ -4,31 +4,13 @@ use Rattle.std.proofs.Crossing.{crosses}
 use Rattle.decider.proofs.tools.Tools.TheSendSync as tools
 use Rattle.eliminators.proofs.line.JobEnd.TheSendSync as ends
 use Rattle.json_forms.proofs.definitions.Definition.TheSendSync as definitions
-use Rattle.shared_survey.proofs.Crosses.{pass_send, held_pass_send, survey_sync}
-use Rattle.answer_rows.proofs.answers.Answers.TheSendSync as answers
+use Rattle.shared_survey.proofs.Crosses.{pass_send, held_pass_send, shared_send, shared_row_send, survey_sync}
 use Rattle.pair_enumeration.proofs.classes.Classes.TheSendSync as classes
-use Rattle.question_queue.proofs.pool.Pool.TheSendSync as pools
-use Rattle.survey_core.proofs.marks.Marks.TheSendSync as marks
-use Rattle.survey_core.specs.contracts.survey.Core as Core
-use Rattle.survey_state.specs.contracts.state.State as State
 use Rattle.turn_lock.proofs.turn.Turn.TheSendSync as turns
-use Rattle.shared_survey.specs.contracts.shared_state.SharedState as SharedState
 use Rattle.shared_survey.specs.contracts.survey.Survey as Survey
 use Rattle.survey_hall.specs.contracts.desk_seats.DeskSeat as DeskSeat
 use Rattle.survey_hall.specs.contracts.eliminator_seats.EliminatorSeat as EliminatorSeat
 use Rattle.survey_hall.specs.contracts.halls.Hall as Hall
-
-core_send : IsSend (Core.the_field).row
-core_send = search (sendable, crosses, answers.the_send, classes.the_send, marks.the_send) depth 40
-
-state_send : IsSend (State.the_field).row
-state_send = let a = core_send in search (sendable, crosses, pools.the_send) depth 40
-
-shared_send : IsSend (SharedState.the_field).row
-shared_send = let a = state_send in search sendable depth 40
-
-shared_row_send : IsSend SharedState.the_row
-shared_row_send = let a = state_send in search sendable depth 40
 
 survey_send : IsSend Survey.the_row
 survey_send = let a = shared_send in let b = shared_row_send in search (sendable, turns.the_field_send, classes.the_send) depth 40
