@@ -8,13 +8,13 @@ ghost use Rattle.survey_hall.specs.ConnectionThreads.{ServesFor};
 use crate::connections::serve_connection;
 use crate::halls::Hall;
 use crate::served::Served;
+use crate::served_places::ServedPlaces;
 use edges::{Gate, Sink, Source};
 use session_protocol::SessionEnd;
 use std::alloc::Global;
 use std::mem;
 use std::snapshot::Snapshot;
 use std::sync::Wait;
-use std::sync::atomic::{AtomicBool, Ordering};
 use std::thread::{Promise, PromisedHandle, Scope, Threads};
 
 /// What the thread of a connection brings back, for contracts: that it was served over these ends.
@@ -38,24 +38,25 @@ pub(crate) enum Connection<I: Source + Drop, O: Sink + Drop> {
     Done(Served),
 }
 
-/// Serves a connection, and then raises the flag.
+/// Serves a connection, and then adds its place.
 fn serve_and_tell<R: Wait + Sync, I: Source + Drop, O: Sink + Drop, G: Gate>(
     rt: &R,
     alloc: Global,
     hall: &Hall,
     mut source: I,
     mut sink: O,
-    over: &AtomicBool,
+    place: usize,
+    ended: &ServedPlaces,
     gate: &G,
 ) -> Served
     ensures { WasServed I.left I.faults O.written O.faults hall.now.definition source sink result }
 {
     let served = serve_connection(rt, alloc, hall, &mut source, &mut sink, gate);
-    over.store(true, Ordering::SeqCst);
+    ended.add(rt, place);
     served
 }
 
-/// Serves a connection in a thread, or here where none can be made. The flag is raised when it was served.
+/// Serves a connection in a thread, or here where none can be made. Its place is added when it was served.
 pub(crate) fn start_connection<
     's,
     E: 's,
@@ -70,7 +71,8 @@ pub(crate) fn start_connection<
     hall: &'s Hall,
     source: I,
     sink: O,
-    over: &'s AtomicBool,
+    place: usize,
+    ended: &'s ServedPlaces,
     gate: &'s G,
 ) -> Connection<I, O>
     ensures { ServesFor I.left I.faults O.written O.faults hall.now.definition source sink result }
@@ -83,7 +85,7 @@ pub(crate) fn start_connection<
     let task = move || -> Served
         requires { IsSync R.row }
         ensures { WasServed I.left I.faults O.written O.faults hall.entry.now.definition source sink result }
-    { serve_and_tell(rt, alloc, hall, source, sink, over, gate) };
+    { serve_and_tell(rt, alloc, hall, source, sink, place, ended, gate) };
     match scope.spawn_with(promise, task) {
         Ok(handle) => Connection::Thread(handle),
         Err(refused) => Connection::Done((refused.value)()),
@@ -109,10 +111,5 @@ impl<I: Source + Drop, O: Sink + Drop> Connection<I, O> {
     {
         let was = mem::replace(self, Connection::Done(Served::Early(SessionEnd::NoMemory)));
         *self = Connection::Done(was.finish(rt));
-    }
-
-    /// Whether it has a thread.
-    pub(crate) fn has_thread(&self) -> bool {
-        matches!(self, Connection::Thread(_))
     }
 }

@@ -19,6 +19,10 @@ use std::alloc::Global;
 use std::sync::Wait;
 
 /// Serves a connection: reads its hello, waits for the desk, welcomes and runs the session. The desk is free again afterwards.
+///
+/// If eliminators of a `serve` on this hall are at work when the desk is got, the session sends a job after each answer that is
+/// accepted. Where that `serve` ends first, jobs stay on the hall's line until eliminators of another take them; once it is full
+/// ([`eliminators::MAX_JOBS`]) the session waits for that.
 pub fn serve_connection<R: Wait + Sync, S: Source, K: Sink, G: Gate>(
     rt: &R,
     alloc: Global,

@@ -11,7 +11,7 @@
 //! and then only what a message needs while it is read and what a withdrawal may need; `serve` takes that of its lists first.
 //!
 //! Inside: `greetings` reads and tests a first line, `desk_seats` and `eliminator_seats` have what rests behind a lock, and
-//! `connection_threads` has the threads of `serve`.
+//! `connection_threads` has the threads of `serve`, which name themselves in `served_places` when they have served.
 #![tactic(auto)]
 
 mod connection_threads;
@@ -21,6 +21,7 @@ mod eliminator_seats;
 mod greetings;
 mod halls;
 mod served;
+mod served_places;
 mod serving;
 mod texts;
 

@@ -11,11 +11,11 @@ use crate::connection_threads::{Connection, start_connection};
 use crate::eliminator_seats::{EliminatorSeat, Start};
 use crate::halls::Hall;
 use crate::served::Served;
+use crate::served_places::ServedPlaces;
 use edges::{Door, Failed, Gate, Sink, Source};
 use json_forms::NoMemory;
 use std::alloc::Global;
 use std::sync::Wait;
-use std::sync::atomic::{AtomicBool, Ordering};
 use std::thread;
 use std::thread::{JoinHandle, Scope, Threads};
 
@@ -63,17 +63,6 @@ struct Rooms<I: Source + Drop, O: Sink + Drop> {
     working: Vec<(usize, JoinHandle<EliminatorSeat>)>,
 }
 
-/// Flags that are not raised.
-fn flags(alloc: Global, count: usize) -> Result<Vec<AtomicBool>, NoMemory>
-    ensures { IfOk result (λ flags. vec_len flags ≡ count) }
-{
-    let mut flags = Vec::with_capacity(alloc, count)?;
-    for _place in 0..count {
-        flags.push_reserved(AtomicBool::new(false));
-    }
-    Ok(flags)
-}
-
 /// For each eliminator, that nothing is known yet.
 fn starts(alloc: Global, count: usize) -> Result<Vec<Start>, NoMemory>
     ensures { IfOk result (λ starts. vec_len starts ≡ count) }
@@ -85,7 +74,10 @@ fn starts(alloc: Global, count: usize) -> Result<Vec<Start>, NoMemory>
     Ok(starts)
 }
 
-/// Serves connections from the door, a thread each, beside eliminators.
+/// Serves connections from the door, a thread each, beside eliminators that no other call has at work.
+///
+/// Calls on one hall share a job line. At its end each sends a stop mark for each eliminator that it started, and any eliminator may
+/// take it: the call that ends first may wait until the other ends too. Nothing is lost by that.
 ///
 /// # Errors
 ///
@@ -111,16 +103,26 @@ pub fn serve<
     ensures count { IfOk result (λ end. vec_len end.list ≡ connections) }
     ensures faults { CountsFaults (result ≡ Err ServeStop.DoorFault) (D.faults door.old) (D.faults door.new) }
 {
-    let (over, starts, rooms) = match take_memory(alloc, connections, workers) {
+    let (ended, starts, rooms) = match take_memory(alloc, connections, workers) {
         Ok(memory) => memory,
         Err(_) => return Err(ServeStop::NoMemory),
     };
-    let (door, end) = serve_within(rt, alloc, hall, door, &over, &starts, rooms, gate);
+    let (door, end) = serve_within(
+        rt,
+        alloc,
+        hall,
+        door,
+        connections,
+        &ended,
+        &starts,
+        rooms,
+        gate,
+    );
     take_back(door);
     end
 }
 
-/// Takes the memory of a call: flags of its connections and eliminators, and its lists.
+/// Takes the memory of a call: its lists.
 ///
 /// # Errors
 ///
@@ -129,17 +131,17 @@ fn take_memory<I: Source + Drop, O: Sink + Drop>(
     alloc: Global,
     connections: u32,
     workers: u32,
-) -> Result<(Vec<AtomicBool>, Vec<Start>, Rooms<I, O>), NoMemory>
-    ensures { IfOk result (λ memory. (vec_len memory.0 ≡ connections) × (vec_len memory.1 ≡ workers) × HasRooms memory.2 connections workers) }
+) -> Result<(ServedPlaces, Vec<Start>, Rooms<I, O>), NoMemory>
+    ensures { IfOk result (λ memory. (vec_len memory.1 ≡ workers) × HasRooms memory.2 connections workers) }
 {
-    let over = flags(alloc, connections as usize)?;
+    let ended = ServedPlaces::reserve(alloc, connections as usize)?;
     let starts = starts(alloc, workers as usize)?;
     let rooms = Rooms {
         connections: Vec::with_capacity(alloc, connections as usize)?,
         served: Vec::with_capacity(alloc, connections as usize)?,
         working: Vec::with_capacity(alloc, workers as usize)?,
     };
-    Ok((over, starts, rooms))
+    Ok((ended, starts, rooms))
 }
 
 /// Does nothing, but this use of a reference that came back ties it to the one that was lent.
@@ -160,29 +162,41 @@ fn serve_within<
     alloc: Global,
     hall: &Hall,
     door: &'d mut D,
-    over: &[AtomicBool],
+    connections: u32,
+    ended: &ServedPlaces,
     starts: &[Start],
     rooms: Rooms<I, O>,
     gate: &G,
 ) -> (&'d mut D, Result<ServeEnd, ServeStop>)
-    requires rooms { HasRooms rooms (length over.now) (length starts.now) }
-    requires few { length over.now ≤ MAX_CONNECTIONS }
+    requires rooms { HasRooms rooms connections (length starts.now) }
+    requires few { connections ≤ MAX_CONNECTIONS }
     ensures name { result.0.ghost_name ≡ door.entry.ghost_name }
     ensures served { IfOk result.1 (λ end. HasServed I.left I.faults O.written O.faults hall.now.definition (D.ends door.old) (D.ends result.0.now) end.list.items) }
-    ensures count { IfOk result.1 (λ end. vec_len end.list ≡ length over.now) }
+    ensures count { IfOk result.1 (λ end. vec_len end.list ≡ connections) }
     ensures faults { CountsFaults (result.1 ≡ Err ServeStop.DoorFault) (D.faults door.old) (D.faults result.0.now) }
 {
     thread::scope(
         thread::scope_env(),
         rt,
         |scope| -> (&mut D, Result<ServeEnd, ServeStop>)
-            requires { IsSync R.row × IsSync G.row × HasRooms rooms (length over.now) (length starts.now) × (length over.now ≤ MAX_CONNECTIONS) }
+            requires { IsSync R.row × IsSync G.row × HasRooms rooms connections (length starts.now) × (connections ≤ MAX_CONNECTIONS) }
             ensures name { result.0.ghost_name ≡ door.entry.ghost_name }
             ensures served { IfOk result.1 (λ end. HasServed I.left I.faults O.written O.faults hall.entry.now.definition (D.ends door.entry.now) (D.ends result.0.now) end.list.items) }
-            ensures count { IfOk result.1 (λ end. vec_len end.list ≡ length over.entry.now) }
+            ensures count { IfOk result.1 (λ end. vec_len end.list ≡ connections) }
             ensures faults { CountsFaults (result.1 ≡ Err ServeStop.DoorFault) (D.faults door.entry.now) (D.faults result.0.now) }
         {
-            let end = serve_in(scope, rt, alloc, hall, door, over, starts, rooms, gate);
+            let end = serve_in(
+                scope,
+                rt,
+                alloc,
+                hall,
+                door,
+                connections,
+                ended,
+                starts,
+                rooms,
+                gate,
+            );
             (door, end)
         },
     )
@@ -203,15 +217,16 @@ fn serve_in<
     alloc: Global,
     hall: &'s Hall,
     door: &mut D,
-    over: &'s [AtomicBool],
+    count: u32,
+    ended: &'s ServedPlaces,
     starts: &'s [Start],
     rooms: Rooms<I, O>,
     gate: &'s G,
 ) -> Result<ServeEnd, ServeStop>
-    requires rooms { HasRooms rooms (length over.now) (length starts.now) }
-    requires few { length over.now ≤ MAX_CONNECTIONS }
+    requires rooms { HasRooms rooms count (length starts.now) }
+    requires few { count ≤ MAX_CONNECTIONS }
     ensures served { IfOk result (λ end. HasServed I.left I.faults O.written O.faults hall.now.definition (D.ends door.old) (D.ends door.new) end.list.items) }
-    ensures count { IfOk result (λ end. vec_len end.list ≡ length over.now) }
+    ensures count { IfOk result (λ end. vec_len end.list ≡ count) }
     ensures faults { CountsFaults (result ≡ Err ServeStop.DoorFault) (D.faults door.old) (D.faults door.new) }
 {
     let Rooms {
@@ -222,7 +237,17 @@ fn serve_in<
     let working = start_eliminators(scope, rt, alloc, hall, starts, gate, working);
     let takers = takers(rt, starts, &working);
     hall.begin_jobs(takers);
-    let accepted = accept_all(scope, rt, alloc, hall, door, over, &mut connections, gate);
+    let accepted = accept_all(
+        scope,
+        rt,
+        alloc,
+        hall,
+        door,
+        count as usize,
+        ended,
+        &mut connections,
+        gate,
+    );
     let served = finish_all(rt, connections, served);
     hall.end_jobs(rt, takers);
     join_eliminators(rt, hall, working);
@@ -232,7 +257,7 @@ fn serve_in<
     }
 }
 
-/// Accepts a connection for each flag, and serves it in a thread.
+/// Accepts so many connections, and serves each in a thread.
 ///
 /// # Errors
 ///
@@ -251,30 +276,24 @@ fn accept_all<
     alloc: Global,
     hall: &'s Hall,
     door: &mut D,
-    over: &'s [AtomicBool],
+    count: usize,
+    ended: &'s ServedPlaces,
     connections: &mut Vec<Connection<I, O>>,
     gate: &'s G,
 ) -> Result<(), Failed>
-    requires room { (connections.old.items ≡ []) × (length over.now ≤ vec_capacity connections.old) }
+    requires room { (connections.old.items ≡ []) × (count ≤ vec_capacity connections.old) }
     ensures accepted { HasAccepted I.left I.faults O.written O.faults hall.now.definition (D.ends door.old) (D.ends door.new) connections.new.items }
-    ensures count { OnOk result (vec_len connections.new ≡ length over.now) }
-    ensures few { vec_len connections.new ≤ length over.now }
+    ensures count { OnOk result (vec_len connections.new ≡ count) }
+    ensures few { vec_len connections.new ≤ count }
     ensures quiet { OnOk result (D.faults door.new ≡ D.faults door.old) }
     ensures failed { OnErr result (HasRisen (D.faults door.old) (D.faults door.new)) }
 {
-    for place in 0..over.len() {
+    for place in 0..count {
         match door.accept() {
             Ok((source, sink)) => {
-                settle_all(rt, connections, over);
+                settle_served(rt, connections, ended);
                 connections.push_reserved(start_connection(
-                    scope,
-                    rt,
-                    alloc,
-                    hall,
-                    source,
-                    sink,
-                    &over[place],
-                    gate,
+                    scope, rt, alloc, hall, source, sink, place, ended, gate,
                 ));
             }
             Err(Failed) => return Err(Failed),
@@ -283,38 +302,37 @@ fn accept_all<
     Ok(())
 }
 
-/// Ends the threads of connections that were served. A thread takes memory of the system until it is joined.
-fn settle_all<R: Threads, I: Source + Drop, O: Sink + Drop>(
+/// Ends the threads of connections that were served since the last call. A thread takes memory of the system until it is joined.
+fn settle_served<R: Threads + Wait, I: Source + Drop, O: Sink + Drop>(
     rt: &R,
     connections: &mut Vec<Connection<I, O>>,
-    over: &[AtomicBool],
+    ended: &ServedPlaces,
 )
-    requires few { vec_len connections.old ≤ length over.now }
     ensures each { (definition : DefinitionView) (accepted : List (I × O)) → ServesEach I.left I.faults O.written O.faults definition accepted connections.old.items
         → ServesEach I.left I.faults O.written O.faults definition accepted connections.new.items }
     ensures len { vec_len connections.new ≡ vec_len connections.old }
     ensures room { vec_capacity connections.new ≡ vec_capacity connections.old }
 {
-    for place in 0..connections.len() {
-        let is_over = over[place].load(Ordering::SeqCst);
-        settle_at(rt, connections, place, is_over);
+    for _look in 0..connections.len() {
+        let Some(place) = ended.take(rt) else {
+            return;
+        };
+        settle_at(rt, connections, place);
     }
 }
 
-/// Ends the thread of a connection, if it has one and was served.
+/// Ends the thread of the connection at a place, if there is one.
 fn settle_at<R: Threads, I: Source + Drop, O: Sink + Drop>(
     rt: &R,
     connections: &mut Vec<Connection<I, O>>,
     place: usize,
-    is_over: bool,
 )
-    requires { place < vec_len connections.old }
     ensures each { (definition : DefinitionView) (accepted : List (I × O)) → ServesEach I.left I.faults O.written O.faults definition accepted connections.old.items
         → ServesEach I.left I.faults O.written O.faults definition accepted connections.new.items }
     ensures len { vec_len connections.new ≡ vec_len connections.old }
     ensures room { vec_capacity connections.new ≡ vec_capacity connections.old }
 {
-    if !is_over || !connections[place].has_thread() {
+    if place >= connections.len() {
         return;
     }
     connections[place].settle(rt);

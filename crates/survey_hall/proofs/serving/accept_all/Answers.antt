@@ -15,8 +15,8 @@ loop-place-preserved g c =
         taken = takes_one_more _ _ _ was.accepted (c.in-Ok.source, c.in-Ok.sink) was.taken c.in-Ok.ensures.next;
         each = rw c.push_reserved.ensures.items
             (zip_push (λ (ends : g.row.I.Denot × g.row.O.Denot) one. ServesFor g.I.Source.left g.I.Source.faults g.O.Sink.written g.O.Sink.faults hall ends.0 ends.1 one)
-            was.accepted c.settle_all.new.connections.items (c.in-Ok.source, c.in-Ok.sink) c.start_connection.result
-            (c.settle_all.ensures.each hall was.accepted was.each) c.start_connection.ensures);
+            was.accepted c.settle_served.new.connections.items (c.in-Ok.source, c.in-Ok.sink) c.start_connection.result
+            (c.settle_served.ensures.each hall was.accepted was.each) c.start_connection.ensures);
       };
       len = search rules;
       room = search rules;
