@@ -8,7 +8,7 @@ use denote.Struct.Declared.{shape}
 use denote.Struct.Struct.{Struct}
 use denote.Struct.Tuple.{TupleAt, type_at}
 use denote.Param.Send.{AllSend, IsSend, IsSync, recorded_send, shr_send, struct_send, sendable}
-use Rattle.std.proofs.Crossing.{crosses, send}
+use Rattle.std.proofs.Crossing.{send}
 use Rattle.std.specs.contracts.alloc.Global as Global
 use Rattle.survey_hall.specs.contracts.eliminator_seats.EliminatorSeat as EliminatorSeat
 use Rattle.survey_hall.specs.contracts.eliminator_seats.Start as Start

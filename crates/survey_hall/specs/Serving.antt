@@ -1,5 +1,5 @@
 -- What a call serves.
-use Rattle.std.specs.Prelude.{◌≡◌, ℕ, List, ◌++◌, length, Option, option_map}
+use Rattle.std.specs.Prelude.{◌≡◌, ℕ, List, ◌++◌, Option, option_map}
 use Rattle.std.specs.List.{AllZip}
 use Rattle.json_forms.specs.DefinitionViews.{DefinitionView}
 use Rattle.survey_hall.specs.declared.served.Served.{Served}

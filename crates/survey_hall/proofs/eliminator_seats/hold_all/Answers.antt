@@ -1,4 +1,4 @@
-use Rattle.std.proofs.Common.{◌≡◌, ◌+◌, ◌∙◌, List, [], length, ap, sym, subst, rules, arith}
+use Rattle.std.proofs.Common.{◌≡◌, ◌∙◌, List, [], length, ap, sym, subst, rules, arith}
 use Rattle.std.specs.Prelude.{vec_len}
 use Rattle.shared_survey.specs.declared.bench.BenchAbout.{BenchAbout}
 use Rattle.shared_survey.specs.declared.bench.SurveyBench.{SurveyBench}
