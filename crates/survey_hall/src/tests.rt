@@ -1,6 +1,6 @@
 //! Connections over memory.
 use crate::{Hall, ServeStop, Served, serve, serve_connection};
-use edges::{DoorEnds, MemDoor, MemSink, MemSource, OpenGate};
+use edges::{DoorEnds, Gate, GatePoint, Hold, MemDoor, MemSink, MemSource, OpenGate, ScriptGate};
 use json_forms::{Word, read_definition};
 use session_protocol::SessionEnd;
 use std::alloc::Global;
@@ -12,6 +12,11 @@ use std::thread::Threads;
 const DEFINITION: &[u8] =
     b"{\"criteria\":[{\"levels\":[\"high\",\"low\"],\"name\":\"price\"},{\"levels\":[\"slow\",\"fast\"],\"name\":\"speed\"},\
     {\"levels\":[\"loud\",\"quiet\"],\"name\":\"noise\"}],\"degree\":3,\"respondents\":[{\"code\":\"k1\",\"name\":\"ana\"}]}";
+
+/// A criterion of three levels and one of two, and one respondent.
+const THREE_LEVELS: &[u8] =
+    b"{\"criteria\":[{\"levels\":[\"poor\",\"fair\",\"good\"],\"name\":\"care\"},{\"levels\":[\"far\",\"near\"],\"name\":\"place\"}],\
+    \"degree\":2,\"respondents\":[{\"code\":\"k1\",\"name\":\"ana\"}]}";
 
 const HELLO: &[u8] = b"{\"hello\":{\"code\":\"k1\",\"desk\":1,\"name\":\"ana\"}}\n";
 
@@ -73,6 +78,15 @@ fn tell_of(served: &Served) -> Told {
     }
 }
 
+/// The texts, one after another.
+fn text_of(alloc: Global, said: &[&[u8]]) -> Result<Vec<u8>, Fail> {
+    let mut text = Vec::new(alloc);
+    for part in said {
+        text.extend_from_slice(part)?;
+    }
+    Ok(text)
+}
+
 /// Serves a connection that says these texts, in pieces; the calls of its source and sink with these numbers fail.
 fn served<R: Wait + Sync>(
     rt: &R,
@@ -81,10 +95,7 @@ fn served<R: Wait + Sync>(
     said: &[&[u8]],
     fails: (u32, u32),
 ) -> Result<(Told, MemSink), Fail> {
-    let mut text = Vec::new(alloc);
-    for part in said {
-        text.extend_from_slice(part)?;
-    }
+    let text = text_of(alloc, said)?;
     let mut source = MemSource::new(alloc, text.as_slice(), 1_000, &[fails.0])?;
     let mut sink = MemSink::new(alloc, 1_000, &[fails.1])?;
     let served = serve_connection(rt, alloc, hall, &mut source, &mut sink, &OpenGate);
@@ -288,31 +299,37 @@ fn longest_line(rt: HostRuntime) -> Result<(), Fail> {
     Ok(())
 }
 
-/// A door with connections that say these texts, each with the call of its sink that fails.
-fn door_of(alloc: Global, connections: &[(&[u8], u32)]) -> Result<MemDoor, Fail> {
+/// What a connection at a door says, and the call of its sink that fails.
+type Caller<'a> = (&'a [&'a [u8]], u32);
+
+/// A door with these connections.
+fn door_of(alloc: Global, callers: &[Caller<'_>]) -> Result<MemDoor, Fail> {
     let mut ends = DoorEnds::new(alloc);
-    for (said, fails) in connections {
-        let source = MemSource::new(alloc, said, 1_000, &[])?;
+    for (said, fails) in callers {
+        let text = text_of(alloc, *said)?;
+        let source = MemSource::new(alloc, text.as_slice(), 1_000, &[])?;
         let sink = MemSink::new(alloc, 1_000, &[*fails])?;
         ends.push(source, sink)?;
     }
     Ok(MemDoor::new(ends))
 }
 
-/// What connections at a door were served, or why none was told.
-fn at_door<R: Threads + Wait + Sync>(
+/// What so many connections at a door were served, or why none was told.
+fn at_door<R: Threads + Wait + Sync, G: Gate + Sync>(
     rt: &R,
     alloc: Global,
-    connections: &[(&[u8], u32)],
+    definition: &[u8],
+    callers: &[Caller<'_>],
     count: u32,
     workers: u32,
+    gate: &G,
 ) -> Result<Result<Vec<Told>, ServeStop>, Fail> {
-    let definition = read_definition(alloc, DEFINITION).ok().ok_or("definition")?;
+    let definition = read_definition(alloc, definition).ok().ok_or("definition")?;
     let workers = workers.min(2);
     let hall = Hall::build(alloc, definition, workers)?;
-    let mut door = door_of(alloc, connections)?;
+    let mut door = door_of(alloc, callers)?;
     let count = count.max(1).min(9);
-    let end = match serve(rt, alloc, &hall, &mut door, count, workers, &OpenGate) {
+    let end = match serve(rt, alloc, &hall, &mut door, count, workers, gate) {
         Ok(end) => end,
         Err(stop) => return Ok(Err(stop)),
     };
@@ -323,11 +340,10 @@ fn at_door<R: Threads + Wait + Sync>(
     Ok(Ok(list))
 }
 
-/// A door fails after the connections that it has.
+/// A door fails after the connections that it has. A sink that fails at its first call ends its own connection alone.
 #[test]
 fn door_fault(rt: HostRuntime) -> Result<(), Fail> {
-    let said: &[u8] =
-        b"{\"hello\":{\"code\":\"k1\",\"desk\":1,\"name\":\"ana\"}}\n{\"ask\":\"bye\"}\n";
+    let said: &[&[u8]] = &[HELLO, BYE];
     let cut = Told::Ran {
         began: 0,
         length: 0,
@@ -335,19 +351,124 @@ fn door_fault(rt: HostRuntime) -> Result<(), Fail> {
         end: SessionEnd::WriteFault,
     };
     let bye = to_bye(0, 0, 1);
-    let table: [(&[(&[u8], u32)], u32, u32, Option<[Told; 2]>); 4] = [
+    let table: [(&[Caller<'_>], u32, u32, Option<[Told; 2]>); 4] = [
         (&[(said, 0), (said, 0)], 2, 0, Some([bye, bye])),
         (&[(said, 0), (said, 0)], 2, 2, Some([bye, bye])),
         (&[(said, 1), (said, 0)], 2, 1, Some([cut, bye])),
         (&[(said, 0), (said, 0)], 3, 1, None),
     ];
-    for (connections, count, workers, want) in table {
-        let told = at_door(&rt, rt.alloc(), connections, count, workers)?;
+    for (callers, count, workers, want) in table {
+        let told = at_door(
+            &rt,
+            rt.alloc(),
+            DEFINITION,
+            callers,
+            count,
+            workers,
+            &OpenGate,
+        )?;
         match (told, want) {
             (Ok(told), Some(want)) => assert!(rt; told.as_slice() == want.as_slice()),
             (Err(stop), None) => assert!(rt; stop == ServeStop::DoorFault),
             _ => assert!(rt; false, "another answer"),
         }
     }
+    Ok(())
+}
+
+/// Whether these connections were served as one of the rows says, and no hold of the gate was missed.
+fn meets_holds<R: Threads + Wait + Sync>(
+    rt: &R,
+    alloc: Global,
+    definition: &[u8],
+    holds: &[Hold],
+    callers: &[Caller<'_>],
+    count: u32,
+    workers: u32,
+    rows: &[&[Told]],
+) -> Result<bool, Fail> {
+    let gate = ScriptGate::new(alloc, holds)?;
+    let told = at_door(rt, alloc, definition, callers, count, workers, &gate)?;
+    let list = told.ok().ok_or("stop")?;
+    for row in rows {
+        if list.as_slice() == *row {
+            return Ok(!gate.missed());
+        }
+    }
+    Ok(false)
+}
+
+/// The second question waits until an eliminator handed in the class that the answer ranks: eliminators work.
+#[test]
+fn connection_waits_for_hand_in(rt: HostRuntime) -> Result<(), Fail> {
+    let begins = GatePoint::NextBegins { desk: 1 };
+    let handed_in = GatePoint::HandedIn {
+        worker: 1,
+        place: 2,
+        eliminated: true,
+    };
+    let holds = [
+        Hold {
+            at: begins,
+            until: begins,
+        },
+        Hold {
+            at: begins,
+            until: handed_in,
+        },
+    ];
+    let said: &[&[u8]] = &[HELLO, NEXT, ANSWER, NEXT, BYE];
+    let callers = [(said, 0)];
+    let rows: [&[Told]; 1] = [&[to_bye(0, 4, 4)]];
+    assert!(rt; meets_holds(&rt, rt.alloc(), THREE_LEVELS, &holds, &callers, 1, 1, &rows)?);
+    Ok(())
+}
+
+/// A desk gets its question while an eliminator is about to solve: no turn is held.
+#[test]
+fn solve_outside_turn(rt: HostRuntime) -> Result<(), Fail> {
+    let taken = GatePoint::JobTaken {
+        worker: 1,
+        place: 2,
+    };
+    let holds = [
+        Hold {
+            at: GatePoint::NextBegins { desk: 2 },
+            until: taken,
+        },
+        Hold {
+            at: taken,
+            until: GatePoint::NextAnswered { desk: 2 },
+        },
+    ];
+    let first: &[&[u8]] = &[HELLO, NEXT, ANSWER, BYE];
+    let second: &[&[u8]] = &[HELLO_2, NEXT, BYE];
+    let callers = [(first, 0), (second, 0)];
+    let rows: [&[Told]; 1] = [&[to_bye(0, 2, 3), to_bye(0, 4, 2)]];
+    assert!(rt; meets_holds(&rt, rt.alloc(), THREE_LEVELS, &holds, &callers, 2, 1, &rows)?);
+    Ok(())
+}
+
+/// Each of two connections asks only once the other is about to: they are served at once, and get the first two questions.
+#[test]
+fn connections_at_once(rt: HostRuntime) -> Result<(), Fail> {
+    let first = GatePoint::NextBegins { desk: 1 };
+    let second = GatePoint::NextBegins { desk: 2 };
+    let holds = [
+        Hold {
+            at: first,
+            until: second,
+        },
+        Hold {
+            at: second,
+            until: first,
+        },
+    ];
+    let one: &[&[u8]] = &[HELLO, NEXT, BYE];
+    let other: &[&[u8]] = &[HELLO_2, NEXT, BYE];
+    let callers = [(one, 0), (other, 0)];
+    let (early, late) = (to_bye(0, 1, 2), to_bye(0, 2, 2));
+    let rows: [&[Told]; 2] = [&[early, late], &[late, early]];
+    assert!(rt; meets_holds(&rt, rt.alloc(), DEFINITION, &holds, &callers, 2, 0, &rows)?);
     Ok(())
 }
