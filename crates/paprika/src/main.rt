@@ -1,7 +1,7 @@
-//! The program `paprika`: `survey_server`'s commands over the standard ends.
+//! The program `paprika`: `survey_server`'s commands over the standard ends and a port of this machine.
 #![tactic(auto)]
 
-use edges::{OpenGate, StdSink, StdSource};
+use edges::{OpenGate, StdSink, StdSource, TcpDoor};
 use std::process::ExitCode;
 use std::{env, io};
 use survey_server::command;
@@ -15,12 +15,14 @@ fn main(rt: HostRuntime) -> ExitCode {
     };
     let mut source = StdSource::new(rt.stdin());
     let mut sink = StdSink::new(rt.stdout());
+    let mut door = TcpDoor::new(&rt);
     let ended = command(
         &rt,
         rt.alloc(),
         words.as_slice(),
         &mut source,
         &mut sink,
+        &mut door,
         &OpenGate,
     );
     ExitCode::from(ended.status)

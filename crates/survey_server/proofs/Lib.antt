@@ -6,3 +6,4 @@ pub mod RankLaws
 pub mod ScriptTextLemmas
 pub mod ScriptRunLemmas
 pub mod ScriptCommandLemmas
+pub mod ServingLemmas

@@ -42,7 +42,7 @@ faults_join outcome status before mid now first failed other =
     ]
 
 -- ---- no memory
-pub no_memory_runs : (eliminators : ℕ) (told left now : Option (List ℕ)) (ended : Ended) → ended ≡ record { status = 5; run = None }
+pub no_memory_runs : (eliminators : ℕ) (told left now : Option (List ℕ)) (ended : Ended) → ended ≡ record { status = 5; run = None; served = None }
     → RunsAndAnswers eliminators told left now now ended
 no_memory_runs eliminators told left now ended is =
     subst (λ (e : Ended). RunsAndAnswers eliminators told left now now e) (sym is)
@@ -78,7 +78,7 @@ done_where_plain Done words told command.Rank is has plain check migrate rank sa
 done_where_plain Done words told (command.Sample seed shape) is has plain check migrate rank sample = sample seed shape is has
 done_where_plain Done words told (command.Run eliminators) is has plain check migrate rank sample = absurd (plain.no_run eliminators is)
 done_where_plain Done words told (command.RunSample seed shape eliminators) is has plain check migrate rank sample = absurd (plain.no_sample seed shape eliminators is)
-done_where_plain Done words told (command.Serve port eliminators connections) is has plain check migrate rank sample = absurd has
+done_where_plain Done words told (command.Serve port eliminators connections) is has plain check migrate rank sample = absurd (plain.no_serve port eliminators connections is)
 
 -- a sample survey is that of the shape that its words name
 pub done_where_sample : (seed : ℕ) (shape : Shape) (eliminators : ℕ) (words : List (String Global)) (told before now : Option (List ℕ)) (status : ℕ) (sink sink_now : ℕ)

@@ -54,7 +54,7 @@ IsNoCommand words =
 
 -- the line that words of no command get
 abbrev pub usage_line : List ℕ
-usage_line = codes "usage: paprika check | migrate | rank | sample SEED SHAPE | run [--eliminators N] [--sample SEED --shape SHAPE]\n"
+usage_line = codes "usage: paprika check | migrate | rank | sample SEED SHAPE | run [--eliminators N] [--sample SEED --shape SHAPE] | serve PORT [--eliminators N] [--connections K]\n"
 
 -- the line of a verdict
 abbrev pub verdict_line : Checked → List ℕ

@@ -4,4 +4,5 @@ pub mod SampleTexts
 pub mod Command
 pub mod ScriptTexts
 pub mod ScriptRuns
+pub mod Serving
 pub mod ScriptCommand

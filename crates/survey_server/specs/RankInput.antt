@@ -96,3 +96,14 @@ IsDefinitionRefusal text (Stopped TableLong) = ⊥
 IsDefinitionRefusal text (Stopped Header) = ⊥
 IsDefinitionRefusal text (Stopped (Row place)) = ⊥
 IsDefinitionRefusal text (Stopped (Level place column)) = ⊥
+
+-- a refusal that the first line can bring, whatever it is
+abbrev pub IsFirstRefusal : RankRefusal → Type 0
+IsFirstRefusal (Definition fault) = Unit {0}
+IsFirstRefusal Values = ⊥
+IsFirstRefusal (Stopped ReadFault) = Unit {0}
+IsFirstRefusal (Stopped NoMemory) = Unit {0}
+IsFirstRefusal (Stopped TableLong) = ⊥
+IsFirstRefusal (Stopped Header) = ⊥
+IsFirstRefusal (Stopped (Row place)) = ⊥
+IsFirstRefusal (Stopped (Level place column)) = ⊥

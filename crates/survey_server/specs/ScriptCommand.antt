@@ -12,6 +12,7 @@ use Rattle.survey_server.specs.declared.script_runs.Stop.TheVariants as stop
 use Rattle.survey_server.specs.Command.{ChecksFile, IsCheck, IsMigrate, IsModelShape, IsNoCommand, IsRank, IsRankable, IsSampleCommand, IsSilent, IsValidFile, IsValidResult, IsWorthAnswer, MigratesFile, RanksTable, SamplesShape, ShowsUsage, Writes, command_in}
 use Rattle.survey_server.specs.RankTexts.{definition_line}
 use Rattle.survey_server.specs.ScriptRuns.{IsScriptOutcome}
+use Rattle.survey_server.specs.Serving.{BeginsWithDefinition, IsServeCommand}
 use Rattle.survey_words.specs.declared.commands.Command.{Command}
 use Rattle.survey_words.specs.declared.commands.Command.TheVariants as command
 use Rattle.survey_words.specs.declared.shapes.Shape.{Shape}
@@ -24,10 +25,11 @@ IsRunCommand words eliminators = command_in words ≡ Some (command.Run eliminat
 abbrev pub IsSampleRunCommand : List (String Global) → ℕ → Shape → ℕ → Type 0
 IsSampleRunCommand words seed shape eliminators = command_in words ≡ Some (command.RunSample seed shape eliminators)
 
--- they name no run, so nobody is waited for
+-- they name neither a run nor the serving of a port, so nobody is waited for
 pub record IsPlainCommand (words : List (String Global)) : Type 0 where
   pub no_run : (eliminators : ℕ) → ¬ IsRunCommand words eliminators
   pub no_sample : (seed : ℕ) (shape : Shape) (eliminators : ℕ) → ¬ IsSampleRunCommand words seed shape eliminators
+  pub no_serve : (port eliminators connections : ℕ) → ¬ IsServeCommand words port eliminators connections
 
 -- the word for what is wrong with a line of a script
 abbrev pub script_part_text : ScriptPart → List ℕ
@@ -73,7 +75,7 @@ pub record DoesPlainCommand {X : Type 0} (words : List (String Global)) (source 
   pub usage : IsNoCommand words → ShowsUsage before now status
   pub unread : IsNoCommand words → source_now ≡ source
 
--- what lies ahead is what the command does its work on: a valid file for a check, a script for a run
+-- what lies ahead is what the command does its work on: a valid file for a check, a script for a run, a definition line for serving
 abbrev pub HasInputFor : Command → Option (List ℕ) → Type 0
 HasInputFor command.Check told = IsValidFile told
 HasInputFor command.Migrate told = IsValidResult told
@@ -81,4 +83,4 @@ HasInputFor command.Rank told = IsRankable told
 HasInputFor (command.Sample seed shape) told = IsModelShape shape
 HasInputFor (command.Run eliminators) told = IsScript told
 HasInputFor (command.RunSample seed shape eliminators) told = IsModelShape shape
-HasInputFor _ told = ⊥
+HasInputFor (command.Serve port eliminators connections) told = BeginsWithDefinition told

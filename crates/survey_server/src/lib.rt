@@ -1,14 +1,15 @@
 //! The commands of the program.
 //!
-//! `command` does what the program's words say over any source and sink: it runs a script by `run_script`, desks at once and
-//! eliminators beside them, runs a sample survey beside eliminators, or does what `plain_command` does, which waits for nobody: it checks a file of claims or the result of a
-//! survey, copies a result into the second format, ranks the alternatives of a table, or runs a sample survey. What is written, and
-//! with which status a command ends, is fixed by the words and the source's bytes, but for the replies of a run, each of which is
-//! right in the one journal of its respondent's survey; a command fails only where a count of faults rose.
+//! `command` does what the program's words say over any source, sink and door: it runs a script by `run_script`, desks at once and
+//! eliminators beside them, runs a sample survey beside eliminators, serves the connections of a port, or does what `plain_command`
+//! does, which waits for nobody: it checks a file of claims or the result of a survey, copies a result into the second format, ranks
+//! the alternatives of a table, or runs a sample survey. What is written, and with which status a command ends, is fixed by the words
+//! and the source's bytes, but for the replies of a run, each of which is right in the one journal of its respondent's survey; a
+//! command fails only where a count of faults rose.
 //!
 //! Inside: `rank_input` reads a definition line, a values line and a table and ranks it, by the names that `survey_names` gives;
 //! `rank_texts` has the texts that answer it, and `sample_texts` the line of a sample survey. `script_runs` runs a script, and
-//! `script_texts` writes the replies to its lines.
+//! `script_texts` writes the replies to its lines; `serving` serves the surveys of a definition.
 #![tactic(auto)]
 
 mod commands;
@@ -19,6 +20,7 @@ mod sample_runs;
 mod sample_texts;
 mod script_runs;
 mod script_texts;
+mod serving;
 mod survey_names;
 
 pub use commands::{Ended, command};

@@ -18,7 +18,7 @@ use survey_words::{Command, Shape, read_words};
 
 /// The line that words of no command get.
 const USAGE: &[u8] =
-    b"usage: paprika check | migrate | rank | sample SEED SHAPE | run [--eliminators N] [--sample SEED --shape SHAPE]\n";
+    b"usage: paprika check | migrate | rank | sample SEED SHAPE | run [--eliminators N] [--sample SEED --shape SHAPE] | serve PORT [--eliminators N] [--connections K]\n";
 
 /// The statuses that a command ends with.
 pub(crate) const DONE: u8 = 0;
@@ -32,6 +32,8 @@ pub(crate) const READ_FAULT: u8 = 3;
 pub(crate) const WRITE_FAULT: u8 = 4;
 
 pub(crate) const NO_MEMORY: u8 = 5;
+
+pub(crate) const DOOR_FAULT: u8 = 6;
 
 /// Does what the words say, where it waits for nobody, and returns the status.
 pub fn plain_command<S: Source, K: Sink>(
@@ -49,6 +51,7 @@ pub fn plain_command<S: Source, K: Sink>(
     ensures unread { IsNoCommand words.now → source.new ≡ source.old }
     ensures sample_unread { (seed : ℕ) (shape : Shape) → IsSampleCommand words.now seed shape → source.new ≡ source.old }
     ensures read_fault { CountsFaults (result ≡ 3) (S.faults source.old) (S.faults source.new) }
+    ensures no_door_fault { result ≢ 6 }
     ensures write_fault { CountsFaults (result ≡ 4) (K.faults sink.old) (K.faults sink.new) }
     ensures worth { IsCheck words.now → IsWorthAnswer (S.left source.old) (K.written sink.old) (K.written sink.new) result }
 
@@ -79,6 +82,7 @@ pub fn plain_command<S: Source, K: Sink>(
 fn show_usage<K: Sink>(alloc: Global, sink: &mut K) -> u8
     ensures usage { ShowsUsage (K.written sink.old) (K.written sink.new) result }
     ensures no_read_fault { result ≢ 3 }
+    ensures no_door_fault { result ≢ 6 }
     ensures write_fault { CountsFaults (result ≡ 4) (K.faults sink.old) (K.faults sink.new) }
 {
     let mut text = match Text::reserve(alloc, ROOM) {
@@ -93,6 +97,7 @@ fn show_usage<K: Sink>(alloc: Global, sink: &mut K) -> u8
 fn check<S: Source, K: Sink>(alloc: Global, source: &mut S, sink: &mut K) -> u8
     ensures checked { ChecksFile (S.left source.old) (S.left source.new) (K.written sink.old) (K.written sink.new) result }
     ensures read_fault { CountsFaults (result ≡ 3) (S.faults source.old) (S.faults source.new) }
+    ensures no_door_fault { result ≢ 6 }
     ensures write_fault { CountsFaults (result ≡ 4) (K.faults sink.old) (K.faults sink.new) }
 {
     let text = match Text::reserve(alloc, ROOM) {
@@ -107,6 +112,7 @@ fn check<S: Source, K: Sink>(alloc: Global, source: &mut S, sink: &mut K) -> u8
 fn migrate<S: Source, K: Sink>(alloc: Global, source: &mut S, sink: &mut K) -> u8
     ensures migrated { MigratesFile (S.left source.old) (K.written sink.old) (K.written sink.new) result }
     ensures read_fault { CountsFaults (result ≡ 3) (S.faults source.old) (S.faults source.new) }
+    ensures no_door_fault { result ≢ 6 }
     ensures write_fault { CountsFaults (result ≡ 4) (K.faults sink.old) (K.faults sink.new) }
 {
     let text = match Text::reserve(alloc, ROOM) {
@@ -123,6 +129,7 @@ fn migrate<S: Source, K: Sink>(alloc: Global, source: &mut S, sink: &mut K) -> u
 fn rank_table<S: Source, K: Sink>(alloc: Global, source: &mut S, sink: &mut K) -> u8
     ensures ranked { RanksTable (S.left source.old) (S.left source.new) (K.written sink.old) (K.written sink.new) result }
     ensures read_fault { CountsFaults (result ≡ 3) (S.faults source.old) (S.faults source.new) }
+    ensures no_door_fault { result ≢ 6 }
     ensures write_fault { CountsFaults (result ≡ 4) (K.faults sink.old) (K.faults sink.new) }
 {
     let text = match Text::reserve(alloc, ROOM) {
@@ -143,6 +150,7 @@ fn sample<K: Sink>(alloc: Global, seed: u32, shape: &Shape, sink: &mut K) -> u8
     requires { IsShape shape.now }
     ensures sampled { SamplesShape seed shape.now (K.written sink.old) (K.written sink.new) result }
     ensures no_read_fault { result ≢ 3 }
+    ensures no_door_fault { result ≢ 6 }
     ensures write_fault { CountsFaults (result ≡ 4) (K.faults sink.old) (K.faults sink.new) }
 {
     match Model::new(shape.counts.as_slice(), shape.degree) {
@@ -155,6 +163,7 @@ fn sample<K: Sink>(alloc: Global, seed: u32, shape: &Shape, sink: &mut K) -> u8
 fn sample_model<K: Sink>(alloc: Global, seed: u32, shape: &Shape, model: &Model, sink: &mut K) -> u8
     ensures sampled { SamplesModel seed shape.now model.now (K.written sink.old) (K.written sink.new) result }
     ensures no_read_fault { result ≢ 3 }
+    ensures no_door_fault { result ≢ 6 }
     ensures write_fault { CountsFaults (result ≡ 4) (K.faults sink.old) (K.faults sink.new) }
 {
     match solo_sample(alloc, seed, model) {
@@ -173,6 +182,7 @@ pub(crate) fn write_summary<K: Sink>(
 ) -> u8
     ensures written { WritesSummary seed shape.now summary.now (K.written sink.old) (K.written sink.new) result }
     ensures no_read_fault { result ≢ 3 }
+    ensures no_door_fault { result ≢ 6 }
     ensures write_fault { CountsFaults (result ≡ 4) (K.faults sink.old) (K.faults sink.new) }
 {
     match sample_line_of(alloc, seed, shape, summary) {
@@ -185,6 +195,7 @@ pub(crate) fn write_summary<K: Sink>(
 pub(crate) fn refuse_shape<K: Sink>(alloc: Global, fault: ModelFault, sink: &mut K) -> u8
     ensures refused { RefusesModel fault (K.written sink.old) (K.written sink.new) result }
     ensures no_read_fault { result ≢ 3 }
+    ensures no_door_fault { result ≢ 6 }
     ensures write_fault { CountsFaults (result ≡ 4) (K.faults sink.old) (K.faults sink.new) }
 {
     let mut text = match Text::reserve(alloc, ROOM) {
@@ -201,6 +212,7 @@ fn refuse<K: Sink>(text: Text, refusal: RankRefusal, sink: &mut K) -> u8
     requires room { text.room ≡ ROOM }
     ensures answered { AnswersRefusal refusal (K.written sink.old) (K.written sink.new) result }
     ensures read_fault { (result ≡ 3) ↔ (refusal ≡ RankRefusal.Stopped RankStop.ReadFault) }
+    ensures no_door_fault { result ≢ 6 }
     ensures write_fault { CountsFaults (result ≡ 4) (K.faults sink.old) (K.faults sink.new) }
 {
     let mut text = text;
@@ -220,6 +232,7 @@ fn answer<K: Sink>(text: Text, verdict: Checked, sink: &mut K) -> u8
     requires room { text.room ≡ ROOM }
     ensures answered { Answers verdict (K.written sink.old) (K.written sink.new) result }
     ensures read_fault { (result ≡ 3) ↔ (verdict ≡ Checked.ReadFault) }
+    ensures no_door_fault { result ≢ 6 }
     ensures write_fault { CountsFaults (result ≡ 4) (K.faults sink.old) (K.faults sink.new) }
 {
     let mut text = text;

@@ -5,7 +5,7 @@ ghost use Rattle.edges.specs.Lines.{KeepsLimits, ahead};
 ghost use Rattle.edges.specs.Told.{IsAtEnd};
 ghost use Rattle.ranking.specs.declared.stops.RankStop.TheVariants.{NoMemory as NoMemoryStop, ReadFault as ReadFaultStop};
 ghost use Rattle.survey_server.specs.declared.rank_input.RankRefusal.TheVariants.{Stopped as StoppedBy};
-ghost use Rattle.survey_server.specs.RankInput.{IsDefinitionRefusal, IsToldInput, IsUnderRanking, LineIs, ReadsDefinition};
+ghost use Rattle.survey_server.specs.RankInput.{IsDefinitionRefusal, IsFirstRefusal, IsToldInput, IsUnderRanking, LineIs, ReadsDefinition};
 
 use crate::survey_names::SurveyNames;
 use edges::{LineGot, Lines, NoMemory, Rest, Source};
@@ -54,7 +54,7 @@ pub(crate) fn rank_input<S: Source>(alloc: Global, source: &mut S) -> Result<Ran
 }
 
 /// The definition of the first line.
-fn definition_line<S: Source>(
+pub(crate) fn definition_line<S: Source>(
     alloc: Global,
     lines: &mut Lines,
     source: &mut S,
@@ -63,6 +63,7 @@ fn definition_line<S: Source>(
     ensures read { IfOk result (λ definition. IfSome (ahead lines.old (S.left source.old))
         (λ text. ReadsDefinition text definition (ahead lines.new (S.left source.new)))) }
     ensures refused { IfErr result (λ refusal. IfSome (ahead lines.old (S.left source.old)) (λ text. IsDefinitionRefusal text refusal)) }
+    ensures first { IfErr result IsFirstRefusal }
     ensures faults { CountsFaults (result ≡ Err (RankRefusal.Stopped RankStop.ReadFault)) (S.faults source.old) (S.faults source.new) }
     ensures limits { KeepsLimits lines.old lines.new }
 {

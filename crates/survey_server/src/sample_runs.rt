@@ -27,6 +27,7 @@ pub(crate) fn sample_beside<R: Threads + Wait + Sync, K: Sink, G: Gate + Sync>(
     requires eliminators { eliminators ≤ MAX_ELIMINATORS }
     ensures sampled { SamplesShape seed shape.now (K.written sink.old) (K.written sink.new) result }
     ensures no_read_fault { result ≢ 3 }
+    ensures no_door_fault { result ≢ 6 }
     ensures write_fault { CountsFaults (result ≡ 4) (K.faults sink.old) (K.faults sink.new) }
 {
     match Model::new(shape.counts.as_slice(), shape.degree) {
@@ -49,6 +50,7 @@ fn sample_model_beside<R: Threads + Wait + Sync, K: Sink, G: Gate + Sync>(
     requires eliminators { eliminators ≤ MAX_ELIMINATORS }
     ensures sampled { SamplesModel seed shape.now model.now (K.written sink.old) (K.written sink.new) result }
     ensures no_read_fault { result ≢ 3 }
+    ensures no_door_fault { result ≢ 6 }
     ensures write_fault { CountsFaults (result ≡ 4) (K.faults sink.old) (K.faults sink.new) }
 {
     match run_sample(rt, alloc, u32::from(eliminators), seed, model, gate) {

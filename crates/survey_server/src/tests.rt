@@ -4,6 +4,7 @@ mod results;
 mod sample_runs;
 mod samples;
 mod scripts;
+mod serving;
 
 use crate::plain_command;
 use edges::{MemSink, MemSource, QuietSink, QuietSource};
@@ -13,7 +14,7 @@ use std::test::Fail;
 
 /// The line that words of no command get.
 const USAGE: &[u8] =
-    b"usage: paprika check | migrate | rank | sample SEED SHAPE | run [--eliminators N] [--sample SEED --shape SHAPE]\n";
+    b"usage: paprika check | migrate | rank | sample SEED SHAPE | run [--eliminators N] [--sample SEED --shape SHAPE] | serve PORT [--eliminators N] [--connections K]\n";
 
 /// Files after their first two lines, with what `check` writes of them.
 const AFTER_MODEL: [(&[u8], &[u8]); 24] = [
@@ -319,7 +320,7 @@ fn other_words_are_usage(rt: HostRuntime) -> Result<(), Fail> {
         expect_usage(&rt, rt.alloc(), &words[..count])?;
     }
     for word in [
-        "", "Check", "check ", "Migrate", "migrate ", "--help", "Rank", "sample", "run",
+        "", "Check", "check ", "Migrate", "migrate ", "--help", "Rank", "sample", "run", "serve",
     ] {
         let words = [format!(in rt.alloc(); "{word}")?];
         expect_usage(&rt, rt.alloc(), &words)?;

@@ -1,6 +1,6 @@
 //! Sample surveys beside eliminators.
 use crate::command;
-use edges::{OpenGate, QuietSink, QuietSource};
+use edges::{DoorEnds, MemDoor, OpenGate, QuietSink, QuietSource};
 use std::alloc::{AllocError, Global};
 use std::process::Abort;
 use std::sync::Wait;
@@ -53,12 +53,14 @@ fn ended<R: Threads + Wait + Sync>(
     let words = words_of(alloc, line)?;
     let mut source = QuietSource::new(alloc, b"")?;
     let mut sink = QuietSink::new(alloc, 256)?;
+    let mut door = MemDoor::new(DoorEnds::new(alloc));
     let ended = command(
         rt,
         alloc,
         words.as_slice(),
         &mut source,
         &mut sink,
+        &mut door,
         &OpenGate,
     );
     let mut text = Vec::new(alloc);

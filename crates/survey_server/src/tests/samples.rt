@@ -50,8 +50,8 @@ const SAMPLES: [(&str, u8, &[u8], &[u8]); 14] = [
         b"definition classes 80730\n",
         b"",
     ),
-    ("7 2x02:2", 2, b"usage: ", b" SHAPE]\n"),
-    ("2147483648 2x2:2", 2, b"usage: ", b" SHAPE]\n"),
+    ("7 2x02:2", 2, b"usage: ", b"connections K]\n"),
+    ("2147483648 2x2:2", 2, b"usage: ", b"connections K]\n"),
 ];
 
 /// The words of a sample survey.

@@ -1,6 +1,6 @@
 //! Scripts that are run.
 use crate::command;
-use edges::{MemSink, MemSource, OpenGate, QuietSink, QuietSource};
+use edges::{DoorEnds, MemDoor, MemSink, MemSource, OpenGate, QuietSink, QuietSource};
 use std::alloc::{AllocError, Global};
 use std::process::Abort;
 use std::sync::Wait;
@@ -102,12 +102,14 @@ fn expect_run<R: Threads + Wait + Sync + Abort>(
     let text = joined(alloc, definition, sessions)?;
     let mut source = QuietSource::new(alloc, text.as_slice())?;
     let mut sink = QuietSink::new(alloc, 4_096)?;
+    let mut door = MemDoor::new(DoorEnds::new(alloc));
     let ended = command(
         rt,
         alloc,
         words.as_slice(),
         &mut source,
         &mut sink,
+        &mut door,
         &OpenGate,
     );
     assert_eq!(rt; ended.status, *status);
@@ -141,12 +143,14 @@ fn ends_of_a_run_fail(rt: HostRuntime) -> Result<(), Fail> {
     ] {
         let mut source = MemSource::new(rt.alloc(), text.as_slice(), 100, &[read])?;
         let mut sink = MemSink::new(rt.alloc(), room, &[write])?;
+        let mut door = MemDoor::new(DoorEnds::new(rt.alloc()));
         let ended = command(
             &rt,
             rt.alloc(),
             words.as_slice(),
             &mut source,
             &mut sink,
+            &mut door,
             &OpenGate,
         );
         assert_eq!(&rt; ended.status, status);

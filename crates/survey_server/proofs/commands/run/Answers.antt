@@ -3,7 +3,7 @@ use Rattle.survey_server.proofs.StatusLaws.{faults_as}
 use Rattle.survey_server.proofs.commands.run.Goals as goal
 
 pub returns-in-Err-clause-ran : goal.returns-in-Err-clause-ran
-returns-in-Err-clause-ran g c = no_memory_runs c.args.eliminators _ _ _ _ c.without_run.ensures
+returns-in-Err-clause-ran g c = no_memory_runs c.args.eliminators _ _ _ _ c.with_status.ensures
 
 pub returns-clause-ran : goal.returns-clause-ran
 returns-clause-ran g c = record {
