@@ -15,7 +15,7 @@ expect() { # the status and the text that are wanted, the input, and the words
     fi
 }
 
-usage='usage: paprika check | migrate | rank | sample SEED SHAPE | run [--eliminators N] [--sample SEED --shape SHAPE]'
+usage='usage: paprika check | migrate | rank | sample SEED SHAPE | run [--eliminators N] [--sample SEED --shape SHAPE] | serve PORT [--eliminators N] [--connections K]'
 expect 0 'valid' examples/claims.txt check
 expect 0 'valid complete' examples/result.txt check
 expect 0 'valid' examples/withdrawn.txt check
@@ -47,6 +47,9 @@ expect 2 "$usage" examples/claims.txt --help
 expect 2 "$usage" examples/claims.txt sample 1
 expect 2 "$usage" examples/claims.txt run --eliminators 17
 expect 2 "$usage" examples/claims.txt sample 01 2x2:2
+expect 2 "$usage" examples/claims.txt serve
+expect 2 "$usage" examples/claims.txt serve 65536
+expect 1 'definition form' examples/claims.txt serve 7878
 expect 2 "$usage" examples/claims.txt "$(printf '\377')"
 expect 2 "$usage" examples/claims.txt check "$(printf '\377')"
 for word in check migrate run; do
