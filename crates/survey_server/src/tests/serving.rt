@@ -68,8 +68,8 @@ fn door_with(alloc: Global, connections: u32) -> Result<MemDoor, Fail> {
 
 /// Whether each connection had a session up to its bye.
 fn are_byes(end: &ServeEnd) -> bool {
-    for number in 1..=end.count() {
-        match end.served(number) {
+    for index in 0..end.count() {
+        match end.served(index + 1) {
             Served::Ran {
                 replies: 1,
                 end: SessionEnd::Bye,
