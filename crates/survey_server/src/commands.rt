@@ -1,5 +1,5 @@
 //! All commands of the program.
-ghost use Rattle.std.specs.Prelude.{◌≡◌, ◌≢◌, ◌↔◌, ◌⊎◌, ℕ, ◌≤◌, [], Some, None};
+ghost use Rattle.std.specs.Prelude.{◌≡◌, ◌≢◌, ◌↔◌, ◌⊎◌, ℕ, ◌≤◌, [], Some, None, IfErr};
 ghost use Rattle.edges.specs.Faults.{CountsFaults, HasRisen};
 ghost use Rattle.survey_server.specs.Command.{SamplesShape, Writes, command_in};
 ghost use Rattle.survey_server.specs.RankTexts.{definition_line};

@@ -7,7 +7,7 @@ ghost use Rattle.survey_server.specs.Serving.{IsServeOutcome, IsServeStop};
 use crate::rank_input::{RankRefusal, definition_line};
 use crate::script_runs::Stop;
 use edges::{Door, Failed, Gate, Lines, Sink, Source};
-use json_forms::{Definition, MAX_DEFINITION};
+use json_forms::{Definition, DefinitionFault, MAX_DEFINITION};
 use ranking::RankStop;
 use std::alloc::Global;
 use std::sync::Wait;
