@@ -8,7 +8,6 @@ use Rattle.json_forms.specs.declared.definition_faults.DefinitionFault.TheVarian
 use Rattle.json_forms.specs.DefinitionViews.{DefinitionView, level_counts, model_of}
 use Rattle.json_forms.specs.Definitions.{definition_of}
 use Rattle.json_forms.specs.Vectors.{values_vector}
-use Rattle.ranking.specs.declared.stops.RankStop.{RankStop}
 use Rattle.ranking.specs.declared.stops.RankStop.TheVariants.{ReadFault, TableLong, Header, Row, Level, NoMemory}
 use Rattle.ranking.specs.Names.{NamedCriteria}
 use Rattle.ranking.specs.NamedWorths.{NamedWorthView}

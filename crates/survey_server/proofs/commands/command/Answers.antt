@@ -1,7 +1,7 @@
 use Rattle.std.proofs.Common.{rules, ◌≡◌, ◌⊎◌}
 use Rattle.survey_server.specs.ScriptCommand.{IsPlainCommand}
 use Rattle.survey_server.proofs.ScriptCommandLemmas.{done_where_plain, no_memory_does, no_memory_runs}
-use Rattle.survey_server.proofs.ServingLemmas.{done_where_served, no_memory_serves}
+use Rattle.survey_server.proofs.ServingLemmas.{no_memory_serves}
 use Rattle.survey_server.proofs.commands.command.Goals as goal
 
 pub returns-in-Err-clause-run : goal.returns-in-Err-clause-run

@@ -1,5 +1,4 @@
 use Rattle.survey_server.proofs.ServingLemmas.{no_memory_serves}
-use Rattle.survey_server.proofs.StatusLaws.{faults_as}
 use Rattle.survey_server.proofs.commands.serve.Goals as goal
 
 pub returns-in-Err-clause-served : goal.returns-in-Err-clause-served
