@@ -4,14 +4,18 @@ docs/TROUBLESHOOTING.md has each refusal of the program once.
 
 A command stands in a block of ```console, after `$ `; the lines up to the next command or the end of the block are what it writes,
 standard output and then standard error. Commands of one document run in order in one scratch copy of the repository's top, with the
-proved program. A command that needs a tool which isn't installed is counted as skipped, by name.
+proved program and, in the variable PORT, a port that nothing uses; what they leave running is ended with the document. A command that
+needs a tool which isn't installed is counted as skipped, by name, and so is one that needs a file which such a command writes.
 
 usage: documents.py [DOCUMENT..]
 """
+import contextlib
 import os
 import pathlib
 import re
 import shutil
+import signal
+import socket
 import subprocess
 import sys
 import tempfile
@@ -38,19 +42,37 @@ def commands_of(text):
             yield command, shown
 
 
-def missing_tool(command):
+def missing(command, unwritten):
+    """The first tool of a command that isn't installed, or file that wasn't written."""
     words = re.findall(r"[\w./-]+", command)
-    return next((tool for tool in TOOLS if tool in words and not shutil.which(tool)), None)
+    tools = [tool for tool in TOOLS if not shutil.which(tool)]
+    return next((word for word in words if word in tools or word in unwritten), None)
 
 
-def run(command, folder):
-    """What the command writes, or that it took too long."""
+def free_port():
+    """A port that nothing uses, below those that systems give to connections."""
+    for port in range(20_000 + os.getpid() % 10_000, 32_000):
+        with socket.socket() as probe, contextlib.suppress(OSError):
+            probe.bind(("127.0.0.1", port))
+            return port
+
+
+def end(group):
+    """Ends what runs of a process group."""
+    with contextlib.suppress(ProcessLookupError):
+        os.killpg(group, signal.SIGTERM)
+
+
+def run(command, folder, port, groups):
+    """What the command writes, or that it took too long. Its process group is added to the groups."""
+    process = subprocess.Popen(["sh", "-c", command], cwd=folder, env={**os.environ, "PORT": str(port)}, stdin=subprocess.DEVNULL,
+                               stdout=subprocess.PIPE, stderr=subprocess.PIPE, start_new_session=True)
+    groups.append(process.pid)
     try:
-        done = subprocess.run(["sh", "-c", command], cwd=folder, stdin=subprocess.DEVNULL, stdout=subprocess.PIPE,
-                              stderr=subprocess.PIPE, timeout=SECONDS)
+        written, errors = process.communicate(timeout=SECONDS)
     except subprocess.TimeoutExpired:
         return f"(nothing after {SECONDS} seconds)\n"
-    return done.stdout.decode() + done.stderr.decode()
+    return written.decode() + errors.decode()
 
 
 def scratch(folder):
@@ -66,16 +88,18 @@ def name_of(document):
 
 
 def check(document, tally):
-    with tempfile.TemporaryDirectory() as made:
+    groups, unwritten, port = [], set(), free_port()
+    with tempfile.TemporaryDirectory() as made, contextlib.ExitStack() as ends:
+        ends.callback(lambda: [end(group) for group in groups])
         folder = pathlib.Path(made)
         scratch(folder)
         for command, shown in commands_of(document.read_text()):
-            tool = missing_tool(command)
-            if tool:
-                print(f"{name_of(document)}: skipped, since {tool} isn't installed: {command}")
+            if lack := missing(command, unwritten):
+                print(f"{name_of(document)}: skipped, for want of {lack}: {command}")
+                unwritten.update(re.findall(r"> *([\w./-]+)", command))
                 tally["skipped"] += 1
                 continue
-            written = run(command, folder)
+            written = run(command, folder, port, groups)
             if written == shown:
                 tally["passed"] += 1
             else:
@@ -85,14 +109,15 @@ def check(document, tally):
 
 def refusals():
     """How each refusal begins, by the sources that write them."""
-    def found(file, pattern, before=""):
-        return [before + word for word in re.findall(pattern, (ROOT / "crates" / file).read_text())]
+    def found(file, pattern, before="", after=""):
+        return [before + word + after for word in re.findall(pattern, (ROOT / "crates" / file).read_text())]
     return [
         *found("survey_server/src/rank_texts.rt", r'b"((?:definition|rank) [a-z]+)'),
         *found("survey_server/src/commands.rt", r'ScriptPart::\w+ => b"(\w+)"', "script LINE "),
         *found("result_file/src/verdicts.rt", r'Part::\w+ => b"(\w+)"', "invalid LINE "),
         *found("survey_server/src/plain_commands.rt", r'b"(unfinished) "'),
         *found("survey_server/src/plain_commands.rt", r'b"(usage:) '),
+        *found("json_forms/src/replies.rt", r'Word::\w+ => "(\w+)"', '{"refused":"', '"}'),
     ]
 
 

@@ -4,17 +4,25 @@
 usage: higher_degrees.py [SEEDS]
 
 Each seed draws hidden values, and the survey is answered by them up to its end. Of each degree 300 classes at random are looked at, or
-all where there are fewer.
+all where there are fewer. Degree 4 is left out where it has too many classes for a model.
 """
 import random
 import statistics
 import sys
 
-from oracle import Model, dot
+from oracle import Model, Wrong, dot
 from survey_oracle import Survey
 
-SHAPES = [(3, 3, 3), (4, 4, 4), (2, 2, 2, 2), (3, 3, 3, 3), (4, 4, 4, 4), (3, 3, 3, 3, 3), (3, 3, 3, 3, 3, 3)]
+SHAPES = [(3, 3, 3), (4, 4, 4), (2, 2, 2, 2), (3, 3, 3, 3), (4, 4, 4, 4), (3, 3, 3, 3, 3), (3, 3, 3, 3, 3, 3), (4, 4, 4, 4, 4, 4)]
 LOOKED_AT = 300
+
+
+def largest(levels):
+    """The model with the highest degree up to 4."""
+    try:
+        return Model(levels, min(4, len(levels)))
+    except Wrong:
+        return Model(levels, 3)
 
 
 def degree_of(pair):
@@ -39,7 +47,7 @@ def main(seeds=30):
     print("| Levels | Questions of degree 2, median | Ranked of degree 3: median | 10th percentile | 90th | Of degree 4: median | 10th percentile | 90th |")
     print("|" + "---|" * 8)
     for levels in SHAPES:
-        model, all_degrees = Model(levels, 2), Model(levels, min(4, len(levels)))
+        model, all_degrees = Model(levels, 2), largest(levels)
         of_degree = {degree: [pair for pair in all_degrees.classes if degree_of(pair) == degree] for degree in (3, 4)}
         questions, shares = [], {3: [], 4: []}
         for seed in range(seeds):

@@ -232,7 +232,7 @@ class Screen:
     def values(self, criteria, levels, weights, **_):
         self.head("What counts how much, in 100")
         shares = sorted(zip(weights, criteria), key=lambda row: -row[0])
-        bars = [(name, f"{share / 100:6.2f}", "#" * max(1, share * BAR_WIDTH // 10_000)) for share, (name, _) in shares]
+        bars = [(name, f"{share / 100:6.2f}", "#" * max(1, share * BAR_WIDTH // max(weights))) for share, (name, _) in shares]
         print(*table(bars, (NAME_WIDTH, 6, BAR_WIDTH)), sep="\n")
         self.head("What each level is worth; the best of all together are 100")
         total = sum(int(worths[-1]) for worths in levels)

@@ -1,0 +1,400 @@
+#!/usr/bin/env python3
+"""Loads `paprika serve` by many clients at once, over real sockets.
+
+usage: load.py surveys [SEED]    16 respondents with 4 desks each answer by hidden values, some withdraw, some vanish in the middle of a
+                                 line or before a reply and come back, beside clients that say nothing, send no messages or never read;
+                                 each record has to be `valid complete`, and the values have to rank all classes as the hidden ones do
+       load.py speed [RUNS]      replies a second, and how long each takes, of desks that answer at once; a plain echo server beside it
+       load.py memory            the memory of the largest setting, before its first connection and after its surveys
+"""
+import contextlib
+import json
+import multiprocessing
+import os
+import pathlib
+import random
+import selectors
+import socket
+import struct
+import subprocess
+import sys
+import threading
+import time
+
+from oracle import Model, dot
+
+PROGRAM = pathlib.Path(__file__).resolve().parent.parent / "crates/paprika/out/paprika"
+HOST = "127.0.0.1"
+RESPONDENTS, DESKS, PROCESSES = 16, 4, 4
+HELD = ((3, 3, 3, 3, 3), 2)  # the model of `surveys`: 90 classes
+LARGEST = ((2, 2, 2, 2, 3, 3, 5, 5, 5), 3)
+SPEED = [((4,) * 8, 2), ((4,) * 6, 3)]  # 1,008 and 13,500 classes
+MODELS = {}
+
+
+def model_of(levels, degree):
+    return MODELS.setdefault((levels, degree), Model(levels, degree))
+
+
+def line_of(message):
+    return json.dumps(message, separators=(",", ":")).encode() + b"\n"
+
+
+def definition_of(levels, degree):
+    criteria = [{"levels": [f"level {n}" for n in range(1, count + 1)], "name": f"criterion {c}"} for c, count in enumerate(levels, 1)]
+    respondents = [{"code": f"code {r}", "name": f"name {r}"} for r in range(RESPONDENTS)]
+    return line_of({"criteria": criteria, "degree": degree, "respondents": respondents})
+
+
+def hello_of(respondent, desk):
+    return line_of({"hello": {"code": f"code {respondent}", "desk": desk, "name": f"name {respondent}"}})
+
+
+def hidden_values(levels, seed):
+    draws = random.Random(seed)
+    return [draws.randint(1, 1000) for count in levels for _ in range(1, count)]
+
+
+def side_of(model, values, pair):
+    lead = dot(values, model.gain(pair, "left"))
+    return "equal" if lead == 0 else "left" if lead > 0 else "right"
+
+
+def answer_line(model, values, question):
+    side = side_of(model, values, (question["left"], question["right"]))
+    return line_of({"answer": {"question": question["number"], "side": side}})
+
+
+def free_port():
+    while True:
+        port = random.SystemRandom().randrange(20_000, 32_000)
+        with socket.socket() as probe, contextlib.suppress(OSError):
+            probe.bind((HOST, port))
+            return port
+
+
+@contextlib.contextmanager
+def server(levels, degree, eliminators):
+    """A server with the model, as its port and its process."""
+    port = free_port()
+    words = [PROGRAM, "serve", str(port), "--eliminators", str(eliminators)]
+    process = subprocess.Popen(words, stdin=subprocess.PIPE, stdout=subprocess.PIPE)
+    process.stdin.write(definition_of(levels, degree))
+    process.stdin.close()
+    try:
+        while True:
+            assert process.poll() is None, f"the server ended with status {process.poll()}"
+            with contextlib.suppress(OSError):
+                socket.create_connection((HOST, port)).close()
+                break
+            time.sleep(0.01)
+        yield port, process
+        assert process.poll() is None, f"the server ended with status {process.poll()}"
+    finally:
+        process.terminate()
+        process.wait()
+
+
+class Session:
+    """A session at a desk; it waits for each reply."""
+
+    def __init__(self, port, respondent, desk):
+        self.socket = socket.create_connection((HOST, port))
+        self.lines = self.socket.makefile("rb")
+        assert "welcome" in self.say(hello_of(respondent, desk))
+
+    def say(self, line):
+        self.socket.sendall(line)
+        return json.loads(self.lines.readline())
+
+    def ask(self, word):
+        return self.say(line_of({"ask": word}))
+
+    def result(self):
+        self.socket.sendall(line_of({"ask": "result"}))
+        return b"".join([*iter(self.lines.readline, b"end\n"), b"end\n"])
+
+    def vanish(self, last):
+        """Ends the connection after these bytes at once, by a reset, with replies on their way."""
+        self.socket.sendall(last)
+        self.socket.setsockopt(socket.SOL_SOCKET, socket.SO_LINGER, struct.pack("ii", 1, 0))
+        self.lines.close()
+        self.socket.close()
+
+
+def waiting_in(result):
+    """The open questions of a result file. Closes and withdrawals are read as the formats say."""
+    asked, ended = [], []
+    for fields in (line.split() for line in result.decode().splitlines()):
+        if fields[0] == "issue":
+            left, right = ([int(level) for level in side.split(",")] for side in fields[2].split("/"))
+            asked.append({"number": len(asked) + 1, "left": left, "right": right})
+        elif fields[0] in ("commit", "close"):
+            ended.append((fields[0], int(fields[2])))
+        elif fields[0] == "withdraw":
+            del ended[max(place for place, (kind, _) in enumerate(ended) if kind == "commit"):]
+    return [question for question in asked if question["number"] not in {number for _, number in ended}]
+
+
+# ---- surveys under load
+
+
+def hold_desk(port, respondent, desk, model, values, rng, tally):
+    """Answers at a desk up to the end, in bad manners now and then."""
+    session, due = Session(port, respondent, desk), []
+    while True:
+        manners = rng.random()
+        if manners < 0.04:
+            session.vanish(rng.choice((b'{"ask":"ne', b'{"answer":{"question":1', line_of({"ask": "next"}), line_of({"ask": "result"}))))
+            session = Session(port, respondent, desk)
+            due, tally["vanished"] = waiting_in(session.result()), tally["vanished"] + 1
+        elif manners < 0.06:
+            assert session.say(b"no message\n") == {"refused": "message"}
+        elif manners < 0.08:
+            if "withdrawn" in session.ask("withdraw"):
+                due, tally["withdrawn"] = waiting_in(session.result()), tally["withdrawn"] + 1
+        if due:
+            reply = session.say(answer_line(model, values, due.pop(0)))
+            assert reply.keys() <= {"accepted", "closed", "implied"}, reply
+            tally["accepted"] += "accepted" in reply
+            continue
+        reply = session.ask("next")
+        if "complete" in reply:
+            assert session.ask("bye") == {"bye": True}
+            return
+        due = [reply["question"]] if "question" in reply else waiting_in(session.result())
+
+
+def hold_surveys(work):
+    """The surveys of some respondents, at all their desks at once."""
+    port, respondents, seed = work
+    model, tally, faults = model_of(*HELD), dict.fromkeys(("accepted", "withdrawn", "vanished"), 0), []
+
+    def run(respondent, desk):
+        rng = random.Random(f"{seed} {respondent} {desk}")
+        try:
+            hold_desk(port, respondent, desk, model, hidden_values(HELD[0], respondent + 100 * seed), rng, tally)
+        except (AssertionError, OSError, ValueError) as fault:
+            faults.append(f"respondent {respondent} desk {desk}: {fault!r}")
+
+    threads = [threading.Thread(target=run, args=(r, d)) for r in respondents for d in range(1, DESKS + 1)]
+    for thread in threads:
+        thread.start()
+    for thread in threads:
+        thread.join()
+    return tally, faults
+
+
+def be_rude(port):
+    """Clients that say nothing, send no messages, or never read; those that say nothing are given back."""
+    silent = [socket.create_connection((HOST, port)) for _ in range(64)]
+    floods = [b"x" * 1_000_000, b"x\n" * 500_000, hello_of(0, 1) + line_of({"ask": "result"}) * 50_000]
+    for flood in floods:
+        client = socket.create_connection((HOST, port), timeout=1)
+        with contextlib.suppress(OSError):
+            client.sendall(flood)
+        client.close()
+    return silent
+
+
+def survey_faults(port, respondent, seed):
+    """What is wrong with a respondent's survey at its end."""
+    session = Session(port, respondent, 1)
+    result, vector = session.result(), [int(value) for value in session.ask("values")["values"]["vector"]]
+    verdict = subprocess.run([PROGRAM, "check"], input=result, stdout=subprocess.PIPE).stdout
+    if verdict != b"valid complete\n":
+        yield f"respondent {respondent}: {verdict}"
+    model, values = model_of(*HELD), hidden_values(HELD[0], respondent + 100 * seed)
+    wrong = sum(side_of(model, vector, pair) != side_of(model, values, pair) for pair in model.classes)
+    if wrong:
+        yield f"respondent {respondent}: {wrong} classes are ranked otherwise than by the hidden values"
+
+
+def surveys(seed=1):
+    with server(*HELD, 2) as (port, _), multiprocessing.Pool(PROCESSES) as pool:
+        silent = be_rude(port)
+        work = [(port, range(first, RESPONDENTS, PROCESSES), seed) for first in range(PROCESSES)]
+        ends = pool.map(hold_surveys, work)
+        faults = [fault for _, found in ends for fault in found]
+        faults += [fault for respondent in range(RESPONDENTS) for fault in survey_faults(port, respondent, seed)]
+        assert all(not client.close() for client in silent)
+    print(*faults, sep="\n", end="\n" if faults else "")
+    counts = {word: sum(tally[word] for tally, _ in ends) for word in ends[0][0]}
+    print(f"{RESPONDENTS} surveys from {RESPONDENTS * DESKS} desks, {counts}: {len(faults)} faults")
+    return bool(faults)
+
+
+# ---- how fast replies are
+
+
+class Answering:
+    """What a desk says that answers at once, up to the end of its survey."""
+
+    def __init__(self, model, values, respondent, desk):
+        self.model, self.values, self.first, self.kind = model, values, hello_of(respondent, desk), None
+
+    def after(self, reply):
+        read = json.loads(reply)
+        if "complete" in read or "waiting" in read or "full" in read:
+            return None
+        self.kind = "answer" if "question" in read else "next"
+        return answer_line(self.model, self.values, read["question"]) if "question" in read else line_of({"ask": "next"})
+
+
+class Repeating:
+    """One message so many times, of which each needs no decision; so many are sent before the first reply is read."""
+
+    def __init__(self, message, count, first=None):
+        self.message, self.left, self.first, self.kind = message, count, first or message, "reply"
+
+    def after(self, reply):
+        self.left -= 1
+        return self.message if self.left > 0 else None
+
+
+def drive(port, talks):
+    """Has all talks at once; the times of each kind of message, and when the first began and the last ended."""
+    times, ready, live = {}, selectors.DefaultSelector(), len(talks)
+    for talk in talks:
+        client = socket.create_connection((HOST, port))
+        client.setsockopt(socket.IPPROTO_TCP, socket.TCP_NODELAY, 1)
+        client.sendall(talk.first)
+        ready.register(client, selectors.EVENT_READ, [talk, b"", time.perf_counter(), talk.first.count(b"\n")])
+    began = time.perf_counter()
+    while live:
+        for key, _ in ready.select():
+            talk, got, sent, lines = key.data
+            got += key.fileobj.recv(1 << 16)
+            if got.count(b"\n") < lines:
+                key.data[1] = got
+                continue
+            if talk.kind:
+                times.setdefault(talk.kind, []).append(time.perf_counter() - sent)
+            message = talk.after(got)
+            if message is None:
+                ready.unregister(key.fileobj)
+                key.fileobj.close()
+                live -= 1
+                continue
+            key.data[1:] = [b"", time.perf_counter(), message.count(b"\n")]
+            key.fileobj.sendall(message)
+    return times, began, time.perf_counter()
+
+
+def drive_share(work):
+    port, share, make, arguments = work
+    return drive(port, [make(place, *arguments) for place in share])
+
+
+def answering(place, desks, shape, seed):
+    respondent, desk = (place, 1) if desks <= RESPONDENTS else divmod(place, DESKS)
+    return Answering(model_of(*shape), hidden_values(shape[0], seed * 100 + respondent), respondent, desk + (desks > RESPONDENTS))
+
+
+def repeating(place, desks, message, count, greets):
+    respondent, desk = (place, 1) if desks <= RESPONDENTS else divmod(place, DESKS)
+    return Repeating(message, count, hello_of(respondent, desk + (desks > RESPONDENTS)) if greets else None)
+
+
+def measured(port, connections, make, arguments):
+    """The times of all talks, shared by some processes, and how long all took together."""
+    processes = min(PROCESSES, connections)
+    shares = [(port, range(first, connections, processes), make, arguments) for first in range(processes)]
+    with multiprocessing.Pool(processes) as pool:
+        ends = pool.map(drive_share, shares, chunksize=1)
+    times = {}
+    for found, _, _ in ends:
+        for kind, values in found.items():
+            times.setdefault(kind, []).extend(values)
+    return times, max(end for _, _, end in ends) - min(began for _, began, _ in ends)
+
+
+def milliseconds(times, part):
+    return f"{1000 * sorted(times)[min(len(times) - 1, int(part * len(times)))]:.2f}"
+
+
+def row(*cells):
+    print("| " + " | ".join(map(str, cells)) + " |", flush=True)
+
+
+def echo(listener):
+    """Sends back what comes, a process for each connection."""
+    while True:
+        client, _ = listener.accept()
+        if os.fork() == 0:
+            client.setsockopt(socket.IPPROTO_TCP, socket.TCP_NODELAY, 1)
+            while got := client.recv(1 << 16):
+                client.sendall(got)
+            os._exit(0)
+        client.close()
+
+
+@contextlib.contextmanager
+def echo_server():
+    listener = socket.create_server((HOST, 0), backlog=128)
+    process = multiprocessing.Process(target=echo, args=(listener,))
+    process.start()
+    try:
+        yield listener.getsockname()[1]
+    finally:
+        process.terminate()
+
+
+def survey_speed(runs):
+    row("Classes", "Eliminators", "Desks", "Replies a second", "`next`: 50th", "99th", "longest", "`answer`: 50th", "99th", "longest")
+    row(*["---"] * 10)
+    for shape in SPEED:
+        for eliminators in (0, 2):
+            for desks in (1, 16, 64):
+                times, taken = {"next": [], "answer": []}, 0
+                for seed in range(runs):
+                    with server(*shape, eliminators) as (port, _):
+                        found, seconds = measured(port, desks, answering, (desks, shape, seed))
+                    taken += seconds
+                    for kind, values in found.items():
+                        times[kind] += values
+                parts = [milliseconds(times[kind], part) for kind in times for part in (0.5, 0.99, 1)]
+                row(f"{len(model_of(*shape).classes):,}", eliminators, desks, f"{sum(map(len, times.values())) / taken:,.0f}", *parts)
+
+
+def plain_speed(runs):
+    """Replies that need no decision, one by one and many at once, and those of an echo server."""
+    row("Server", "Connections", "Messages sent at once", "Replies a second", "50th", "99th", "longest")
+    row(*["---"] * 7)
+    message = line_of({"answer": {"question": 4_000_000_000, "side": "left"}})
+    for connections in (1, 16, 64):
+        for batch in (1, 64):
+            count = runs * 20_000 // connections // batch
+            with server(*SPEED[0], 0) as (port, _), echo_server() as echo_port:
+                for name, at, greets in (("paprika", port, True), ("echo", echo_port, False)):
+                    found, seconds = measured(at, connections, repeating, (connections, message * batch, count, greets))
+                    parts = [milliseconds(found["reply"], part) for part in (0.5, 0.99, 1)]
+                    row(name, connections, batch, f"{batch * len(found['reply']) / seconds:,.0f}", *parts)
+
+
+def speed(runs=3):
+    survey_speed(runs)
+    print()
+    plain_speed(runs)
+
+
+# ---- memory
+
+
+def memory_of(process):
+    """What the process has of the machine's memory, and all that it has asked for, in MiB."""
+    status = pathlib.Path(f"/proc/{process.pid}/status").read_text().split()
+    return [int(status[status.index(word) + 1]) // 1024 for word in ("VmHWM:", "VmPeak:")]
+
+
+def memory():
+    begun = time.perf_counter()
+    with server(*LARGEST, 16) as (port, process):
+        print(f"{len(model_of(*LARGEST).classes)} classes: listens after {time.perf_counter() - begun:.2f} s; MiB in use, asked for: {memory_of(process)}")
+        measured(port, RESPONDENTS * DESKS, answering, (RESPONDENTS * DESKS, LARGEST, 1))
+        print(f"after its surveys: {memory_of(process)}")
+
+
+if __name__ == "__main__":
+    modes = {"surveys": surveys, "speed": speed, "memory": memory}
+    sys.exit(modes[sys.argv[1]](*map(int, sys.argv[2:])))
