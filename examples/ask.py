@@ -135,7 +135,7 @@ class Session:
     def line(self):
         line = self.lines.readline()
         if not line.endswith(b"\n"):
-            raise ConnectionError
+            raise ConnectionError("the server is gone")
         return line.decode()
 
     def say(self, message):
