@@ -242,13 +242,13 @@ class Answering:
 
 
 class Repeating:
-    """One message so many times, of which each needs no decision; so many are sent before the first reply is read."""
+    """The same lines so many times, each time when all their replies have come."""
 
-    def __init__(self, message, count, first=None):
-        self.message, self.left, self.first, self.kind = message, count, first or message, "reply"
+    def __init__(self, message, count, hello):
+        self.message, self.left, self.first, self.kind = message, count, hello or message, None if hello else "reply"
 
     def after(self, reply):
-        self.left -= 1
+        self.left, self.kind = self.left - (self.kind is not None), "reply"
         return self.message if self.left > 0 else None
 
 
@@ -344,6 +344,7 @@ def survey_speed(runs):
     row("Classes", "Eliminators", "Desks", "Replies a second", "`next`: 50th", "99th", "longest", "`answer`: 50th", "99th", "longest")
     row(*["---"] * 10)
     for shape in SPEED:
+        classes = len(model_of(*shape).classes)
         for eliminators in (0, 2):
             for desks in (1, 16, 64):
                 times, taken = {"next": [], "answer": []}, 0
@@ -354,7 +355,7 @@ def survey_speed(runs):
                     for kind, values in found.items():
                         times[kind] += values
                 parts = [milliseconds(times[kind], part) for kind in times for part in (0.5, 0.99, 1)]
-                row(f"{len(model_of(*shape).classes):,}", eliminators, desks, f"{sum(map(len, times.values())) / taken:,.0f}", *parts)
+                row(f"{classes:,}", eliminators, desks, f"{sum(map(len, times.values())) / taken:,.0f}", *parts)
 
 
 def plain_speed(runs):
@@ -364,7 +365,7 @@ def plain_speed(runs):
     message = line_of({"answer": {"question": 4_000_000_000, "side": "left"}})
     for connections in (1, 16, 64):
         for batch in (1, 64):
-            count = runs * 20_000 // connections // batch
+            count = runs * (20_000 if batch == 1 else 200_000) // connections // batch
             with server(*SPEED[0], 0) as (port, _), echo_server() as echo_port:
                 for name, at, greets in (("paprika", port, True), ("echo", echo_port, False)):
                     found, seconds = measured(at, connections, repeating, (connections, message * batch, count, greets))
