@@ -29,6 +29,7 @@ RESPONDENTS, DESKS, PROCESSES = 16, 4, 4
 HELD = ((3, 3, 3, 3, 3), 2)  # the model of `surveys`: 90 classes
 LARGEST = ((2, 2, 2, 2, 3, 3, 5, 5, 5), 3)
 SPEED = [((4,) * 8, 2), ((4,) * 6, 3)]  # 1,008 and 13,500 classes
+MOST_MESSAGES = 60_000  # of a session; a server takes 65,536
 MODELS = {}
 
 
@@ -264,7 +265,9 @@ def drive(port, talks):
     while live:
         for key, _ in ready.select():
             talk, got, sent, lines = key.data
-            got += key.fileobj.recv(1 << 16)
+            more = key.fileobj.recv(1 << 16)
+            assert more, "the connection ended"
+            got += more
             if got.count(b"\n") < lines:
                 key.data[1] = got
                 continue
@@ -365,7 +368,7 @@ def plain_speed(runs):
     message = line_of({"answer": {"question": 4_000_000_000, "side": "left"}})
     for connections in (1, 16, 64):
         for batch in (1, 64):
-            count = runs * (20_000 if batch == 1 else 200_000) // connections // batch
+            count = min(MOST_MESSAGES, runs * (20_000 if batch == 1 else 200_000) // connections) // batch
             with server(*SPEED[0], 0) as (port, _), echo_server() as echo_port:
                 for name, at, greets in (("paprika", port, True), ("echo", echo_port, False)):
                     found, seconds = measured(at, connections, repeating, (connections, message * batch, count, greets))
