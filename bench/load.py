@@ -5,7 +5,7 @@ usage: load.py surveys [SEED]    16 respondents with 4 desks each answer by hidd
                                  line or before a reply and come back, beside clients that say nothing, send no messages or never read;
                                  each record has to be `valid complete`, and the values have to rank all classes as the hidden ones do
        load.py speed [RUNS]      replies a second, and how long each takes, of desks that answer at once; a plain echo server beside it
-       load.py memory            the memory of the largest setting, before its first connection and after its surveys
+       load.py memory            the memory of 16 surveys, before the first connection and after all were answered from 64 desks
 """
 import contextlib
 import json
@@ -386,17 +386,20 @@ def speed(runs=3):
 
 
 def memory_of(process):
-    """What the process has of the machine's memory, and all that it has asked for, in MiB."""
+    """What the process has of the machine's memory, and all that it has asked for, each at most so far."""
     status = pathlib.Path(f"/proc/{process.pid}/status").read_text().split()
-    return [int(status[status.index(word) + 1]) // 1024 for word in ("VmHWM:", "VmPeak:")]
+    return [f"{int(status[status.index(word) + 1]) // 1024:,} MiB" for word in ("VmHWM:", "VmPeak:")]
 
 
 def memory():
-    begun = time.perf_counter()
-    with server(*LARGEST, 16) as (port, process):
-        print(f"{len(model_of(*LARGEST).classes)} classes: listens after {time.perf_counter() - begun:.2f} s; MiB in use, asked for: {memory_of(process)}")
-        measured(port, RESPONDENTS * DESKS, answering, (RESPONDENTS * DESKS, LARGEST, 1))
-        print(f"after its surveys: {memory_of(process)}")
+    row("Classes", "Eliminators", "Listens after", "Asked for then", "In use then", "In use after all surveys")
+    row(*["---"] * 6)
+    for shape, eliminators in [(HELD, 2), (SPEED[0], 2), (SPEED[1], 2), (LARGEST, 16)]:
+        classes, begun = len(model_of(*shape).classes), time.perf_counter()
+        with server(*shape, eliminators) as (port, process):
+            listens, (used, asked) = f"{time.perf_counter() - begun:.2f} s", memory_of(process)
+            measured(port, RESPONDENTS * DESKS, answering, (RESPONDENTS * DESKS, shape, 1))
+            row(f"{classes:,}", eliminators, listens, asked, used, memory_of(process)[0])
 
 
 if __name__ == "__main__":
