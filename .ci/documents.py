@@ -95,7 +95,7 @@ def check(document, tally):
         scratch(folder)
         for command, shown in commands_of(document.read_text()):
             if lack := missing(command, unwritten):
-                print(f"{name_of(document)}: skipped, for want of {lack}: {command}")
+                print(f"{name_of(document)}: skipped, since {lack} is missing: {command}")
                 unwritten.update(re.findall(r"> *([\w./-]+)", command))
                 tally["skipped"] += 1
                 continue
