@@ -1,6 +1,7 @@
 #!/bin/sh
 # Refuses the program each of its allocations in turn. It has to end with status 5 and nothing written, or with the status and the
-# text that it has with enough memory: a thread that there is no memory for is done without.
+# text that it has with enough memory: a list may do with less room, the caller holds the sessions of a desk that gets no thread,
+# and an eliminator is left out.
 #
 # usage: memory.sh
 here=$(cd "$(dirname "$0")" && pwd) || exit 1
@@ -37,7 +38,7 @@ refuse_each() { # the input, and the words
     number=1 ended=0 same=0
     while :; do
         rm -f "$folder/refused"
-        REFUSE=$number REFUSED=$folder/refused LD_PRELOAD=$folder/refuse.so timeout 60 "$program" "$@" <"$input" >"$folder/out"
+        timeout 60 env REFUSE="$number" REFUSED="$folder/refused" LD_PRELOAD="$folder/refuse.so" "$program" "$@" <"$input" >"$folder/out"
         status=$?
         [ -e "$folder/refused" ] || break
         if [ $status = 5 ] && [ ! -s "$folder/out" ]; then
@@ -45,17 +46,17 @@ refuse_each() { # the input, and the words
         elif [ $status = $wanted ] && cmp -s "$folder/out" "$folder/wanted"; then
             same=$((same + 1))
         else
-            echo "paprika $* < $input: allocation $number refused, status $status"
+            echo "paprika $*, ${input##*/}: allocation $number refused, status $status"
             failed=1
         fi
         number=$((number + 1))
     done
     [ $number -gt 1 ] || failed=1
-    echo "paprika $* < $input: $((number - 1)) allocations, $ended end it with status 5, $same change nothing"
+    echo "paprika $*, ${input##*/}: $((number - 1)) allocations, $ended end it with status 5, $same change nothing"
 }
 
 head -n 4 examples/survey.txt >"$folder/script"
-printf '%s\n' '{"ask":"withdraw"}' '{"ask":"result"}' '{"ask":"bye"}' >>"$folder/script"
+printf '%s\n' '{"ask":"withdraw"}' '{"ask":"next"}' '{"ask":"bye"}' >>"$folder/script"
 for file in examples/claims.txt examples/withdrawn.txt examples/unproved.txt; do
     refuse_each "$file" check
 done
