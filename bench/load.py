@@ -4,10 +4,13 @@
 usage: load.py surveys [SEED]    16 respondents with 4 desks each answer by hidden values, some withdraw, some vanish in the middle of a
                                  line or before a reply and come back, beside clients that say nothing, send no messages or never read;
                                  each record has to be `valid complete`, and the values have to rank all classes as the hidden ones do
-       load.py speed [RUNS]      replies a second, and how long each takes, of desks that answer at once; a plain echo server beside it
+       load.py speed [RUNS]      replies a second, and how long each takes, of desks that answer at once and of desks that think for
+                                 0.1 s; a plain echo server beside it
        load.py memory            the memory of 16 surveys, before the first connection and after all were answered from 64 desks
 """
 import contextlib
+import heapq
+import itertools
 import json
 import multiprocessing
 import os
@@ -75,11 +78,11 @@ def free_port():
 
 
 @contextlib.contextmanager
-def server(levels, degree, eliminators):
-    """A server with the model, as its port and its process."""
+def server(levels, degree, eliminators, **settings):
+    """A server with the model, as its port and its process. Settings are variables of its environment."""
     port = free_port()
     words = [PROGRAM, "serve", str(port), "--eliminators", str(eliminators)]
-    process = subprocess.Popen(words, stdin=subprocess.PIPE, stdout=subprocess.PIPE)
+    process = subprocess.Popen(words, stdin=subprocess.PIPE, stdout=subprocess.PIPE, env=os.environ | settings)
     process.stdin.write(definition_of(levels, degree))
     process.stdin.close()
     try:
@@ -229,10 +232,14 @@ def surveys(seed=1):
 
 
 class Answering:
-    """What a desk says that answers at once, up to the end of its survey."""
+    """What a desk says, up to the end of its survey. It thinks before each answer, for so long on average."""
 
-    def __init__(self, model, values, respondent, desk):
+    def __init__(self, model, values, respondent, desk, thinks):
         self.model, self.values, self.first, self.kind = model, values, hello_of(respondent, desk), None
+        self.thinks, self.draws = thinks, random.Random(f"{respondent} {desk}")
+
+    def pause(self):
+        return self.draws.expovariate(1 / self.thinks) if self.thinks and self.kind == "answer" else 0
 
     def after(self, reply):
         read = json.loads(reply)
@@ -248,6 +255,9 @@ class Repeating:
     def __init__(self, message, count, hello):
         self.message, self.left, self.first, self.kind = message, count, hello or message, None if hello else "reply"
 
+    def pause(self):
+        return 0
+
     def after(self, reply):
         self.left, self.kind = self.left - (self.kind is not None), "reply"
         return self.message if self.left > 0 else None
@@ -255,33 +265,44 @@ class Repeating:
 
 def drive(port, talks):
     """Has all talks at once; the times of each kind of message, and when the first began and the last ended."""
-    times, ready, live = {}, selectors.DefaultSelector(), len(talks)
-    for talk in talks:
+    times, ready, paused, live = {}, selectors.DefaultSelector(), [], len(talks)
+    for number, talk in enumerate(talks):
         client = socket.create_connection((HOST, port))
         client.setsockopt(socket.IPPROTO_TCP, socket.TCP_NODELAY, 1)
         client.sendall(talk.first)
-        ready.register(client, selectors.EVENT_READ, [talk, b"", time.perf_counter(), talk.first.count(b"\n")])
+        ready.register(client, selectors.EVENT_READ, [talk, b"", time.perf_counter(), talk.first.count(b"\n"), number])
     began = time.perf_counter()
     while live:
-        for key, _ in ready.select():
-            talk, got, sent, lines = key.data
-            more = key.fileobj.recv(1 << 16)
+        while paused and paused[0][0] <= time.perf_counter():
+            _, _, client, data, message = heapq.heappop(paused)
+            say(client, data, message)
+        for key, _ in ready.select(max(0, paused[0][0] - time.perf_counter()) if paused else None):
+            client, data = key.fileobj, key.data
+            talk, got, sent, lines, number = data
+            more = client.recv(1 << 16)
             assert more, "the connection ended"
             got += more
             if got.count(b"\n") < lines:
-                key.data[1] = got
+                data[1] = got
                 continue
             if talk.kind:
                 times.setdefault(talk.kind, []).append(time.perf_counter() - sent)
             message = talk.after(got)
             if message is None:
-                ready.unregister(key.fileobj)
-                key.fileobj.close()
+                ready.unregister(client)
+                client.close()
                 live -= 1
-                continue
-            key.data[1:] = [b"", time.perf_counter(), message.count(b"\n")]
-            key.fileobj.sendall(message)
+            elif pause := talk.pause():
+                heapq.heappush(paused, (time.perf_counter() + pause, number, client, data, message))
+            else:
+                say(client, data, message)
     return times, began, time.perf_counter()
+
+
+def say(client, data, message):
+    """Sends a message, and notes when and how many lines will come."""
+    data[1:4] = [b"", time.perf_counter(), message.count(b"\n")]
+    client.sendall(message)
 
 
 def drive_share(work):
@@ -289,9 +310,9 @@ def drive_share(work):
     return drive(port, [make(place, *arguments) for place in share])
 
 
-def answering(place, desks, shape, seed):
+def answering(place, desks, shape, seed, thinks):
     respondent, desk = (place, 1) if desks <= RESPONDENTS else divmod(place, DESKS)
-    return Answering(model_of(*shape), hidden_values(shape[0], seed * 100 + respondent), respondent, desk + (desks > RESPONDENTS))
+    return Answering(model_of(*shape), hidden_values(shape[0], seed * 100 + respondent), respondent, desk + (desks > RESPONDENTS), thinks)
 
 
 def repeating(place, desks, message, count, greets):
@@ -343,22 +364,21 @@ def echo_server():
         process.terminate()
 
 
-def survey_speed(runs):
+def survey_speed(runs, thinks):
+    """Of desks that think for so many seconds before each answer."""
     row("Classes", "Eliminators", "Desks", "Replies a second", "`next`: 50th", "99th", "longest", "`answer`: 50th", "99th", "longest")
     row(*["---"] * 10)
-    for shape in SPEED:
+    for shape, eliminators, desks in itertools.product(SPEED, (0, 2), (1, 16, 64)):
+        times, taken = {"next": [], "answer": []}, 0
+        for seed in range(runs):
+            with server(*shape, eliminators) as (port, _):
+                found, seconds = measured(port, desks, answering, (desks, shape, seed, thinks))
+            taken += seconds
+            for kind, values in found.items():
+                times[kind] += values
+        parts = [milliseconds(times[kind], part) for kind in times for part in (0.5, 0.99, 1)]
         classes = len(model_of(*shape).classes)
-        for eliminators in (0, 2):
-            for desks in (1, 16, 64):
-                times, taken = {"next": [], "answer": []}, 0
-                for seed in range(runs):
-                    with server(*shape, eliminators) as (port, _):
-                        found, seconds = measured(port, desks, answering, (desks, shape, seed))
-                    taken += seconds
-                    for kind, values in found.items():
-                        times[kind] += values
-                parts = [milliseconds(times[kind], part) for kind in times for part in (0.5, 0.99, 1)]
-                row(f"{classes:,}", eliminators, desks, f"{sum(map(len, times.values())) / taken:,.0f}", *parts)
+        row(f"{classes:,}", eliminators, desks, f"{sum(map(len, times.values())) / taken:,.0f}", *parts)
 
 
 def plain_speed(runs):
@@ -377,8 +397,9 @@ def plain_speed(runs):
 
 
 def speed(runs=3):
-    survey_speed(runs)
-    print()
+    for thinks in (0, 0.1):
+        survey_speed(runs, thinks)
+        print()
     plain_speed(runs)
 
 
@@ -392,14 +413,16 @@ def memory_of(process):
 
 
 def memory():
-    row("Classes", "Eliminators", "Listens after", "Asked for then", "In use then", "In use after all surveys")
-    row(*["---"] * 6)
+    row("Classes", "Eliminators", "Listens after", "Asked for then", "Asked for then in one arena", "In use then", "In use after all surveys")
+    row(*["---"] * 7)
     for shape, eliminators in [(HELD, 2), (SPEED[0], 2), (SPEED[1], 2), (LARGEST, 16)]:
-        classes, begun = len(model_of(*shape).classes), time.perf_counter()
+        with server(*shape, eliminators, MALLOC_ARENA_MAX="1") as (port, process):
+            _, in_one = memory_of(process)
+        begun = time.perf_counter()
         with server(*shape, eliminators) as (port, process):
             listens, (used, asked) = f"{time.perf_counter() - begun:.2f} s", memory_of(process)
-            measured(port, RESPONDENTS * DESKS, answering, (RESPONDENTS * DESKS, shape, 1))
-            row(f"{classes:,}", eliminators, listens, asked, used, memory_of(process)[0])
+            measured(port, RESPONDENTS * DESKS, answering, (RESPONDENTS * DESKS, shape, 1, 0))
+            row(f"{len(model_of(*shape).classes):,}", eliminators, listens, asked, in_one, used, memory_of(process)[0])
 
 
 if __name__ == "__main__":

@@ -19,6 +19,7 @@ pub mod laws;
 mod limits;
 mod line;
 mod state_turns;
+mod waiting;
 mod work;
 
 pub use bench::Bench;

@@ -2,6 +2,7 @@
 ghost use Rattle.std.specs.Prelude.{◌≡◌, ◌≤◌, IfOk, IfSome};
 
 use crate::limits::MAX_JOBS;
+use crate::waiting::WaitingMarks;
 use crossbeam_channel::{Receiver, Sender, bounded};
 use std::alloc::{AllocError as NoMemory, Global};
 use std::sync::Wait;
@@ -26,10 +27,11 @@ struct SurveyNumber {
 pub struct JobEnd {
     sender: Sender<Notice>,
     receiver: Receiver<Notice>,
+    waiting: WaitingMarks,
     surveys: u32,
 }
 
-/// A job line for this number of surveys, in which [`MAX_JOBS`] jobs may wait.
+/// A job line for this number of surveys, in which [`MAX_JOBS`] jobs may wait, one of each survey.
 ///
 /// # Errors
 ///
@@ -41,6 +43,7 @@ pub fn job_line(alloc: Global, surveys: u32) -> Result<JobEnd, NoMemory>
     Ok(JobEnd {
         sender,
         receiver,
+        waiting: WaitingMarks::new(alloc, surveys)?,
         surveys,
     })
 }
@@ -57,20 +60,24 @@ impl JobEnd {
         Ok(JobEnd {
             sender: self.sender.clone()?,
             receiver: self.receiver.clone()?,
+            waiting: self.waiting.another()?,
             surveys: self.surveys,
         })
     }
 
-    /// Sends a job for a survey. Waits where the line is full. A job that the line hands back is dropped.
+    /// Sends a job for a survey, unless one of it waits already. Waits where the line is full. A job that the line hands back is
+    /// dropped.
     pub fn send<R: Wait>(&self, rt: &R, survey: u32)
         requires low { 1 ≤ survey }
         requires high { survey ≤ self.now.surveys }
     {
-        let number = SurveyNumber {
-            number: survey,
-            surveys: self.surveys,
-        };
-        let _ = self.sender.send(rt, Notice::Survey(number));
+        if self.waiting.raise(survey) {
+            let number = SurveyNumber {
+                number: survey,
+                surveys: self.surveys,
+            };
+            let _ = self.sender.send(rt, Notice::Survey(number));
+        }
     }
 
     /// Tells one eliminator to stop. Waits where the line is full.
@@ -85,7 +92,11 @@ impl JobEnd {
     {
         match self.receiver.recv(rt) {
             // All ends of a line have one number of surveys, so this holds of each job.
-            Ok(Notice::Survey(survey)) if survey.surveys == self.surveys => Some(survey.number),
+            Ok(Notice::Survey(survey)) if survey.surveys == self.surveys => {
+                // Before the work, so that an answer that comes meanwhile sends a job of its own.
+                self.waiting.lower(survey.number);
+                Some(survey.number)
+            }
             _ => None,
         }
     }
