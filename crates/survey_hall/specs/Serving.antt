@@ -1,5 +1,5 @@
 -- What a call serves.
-use Rattle.std.specs.Prelude.{◌≡◌, ℕ, List, ◌++◌, Option, option_map}
+use Rattle.std.specs.Prelude.{◌≡◌, ◌<◌, ℕ, List, ◌++◌, length, Option, option_map}
 use Rattle.std.specs.List.{AllZip}
 use Rattle.json_forms.specs.DefinitionViews.{DefinitionView}
 use Rattle.survey_hall.specs.declared.served.Served.{Served}
@@ -27,6 +27,12 @@ module _ {I O : Type 0} (left : I → Option (List ℕ)) (read_faults : I → �
     pub accepted : List (I × O)
     pub taken : TakesFirst before after accepted
     pub each : ServedEach definition accepted served
+
+  -- the same of fewer connections than so many
+  pub record HasServedFewer (definition : DefinitionView) (before after : Option (List (I × O))) (connections : ℕ) : Type 0 where
+    pub served : List Served
+    pub fewer : length served < connections
+    pub has : HasServed definition before after served
 
   -- the same while they are being served
   pub record HasAccepted (definition : DefinitionView) (before after : Option (List (I × O))) (connections : List (Connection I O)) : Type 0 where

@@ -5,7 +5,7 @@ ghost use Rattle.edges.specs.Faults.{CountsFaults, HasRisen};
 ghost use Rattle.json_forms.specs.DefinitionViews.{DefinitionView};
 ghost use Rattle.survey_hall.specs.declared.serving.TheConstants.{MAX_CONNECTIONS};
 ghost use Rattle.survey_hall.specs.Rooms.{HasRooms};
-ghost use Rattle.survey_hall.specs.Serving.{HasAccepted, HasServed, ServedEach, ServesEach};
+ghost use Rattle.survey_hall.specs.Serving.{HasAccepted, HasServed, HasServedFewer, ServedEach, ServesEach};
 
 use crate::connection_threads::{Connection, start_connection};
 use crate::eliminator_seats::{EliminatorSeat, Start};
@@ -101,6 +101,8 @@ pub fn serve<
     requires workers { workers ≤ hall.now.workers }
     ensures served { IfOk result (λ end. HasServed I.left I.faults O.written O.faults hall.now.definition (D.ends door.old) (D.ends door.new) end.list.items) }
     ensures count { IfOk result (λ end. vec_len end.list ≡ connections) }
+    ensures cut { result ≡ Err ServeStop.DoorFault → HasServedFewer I.left I.faults O.written O.faults hall.now.definition (D.ends door.old) (D.ends door.new) connections }
+    ensures untouched { result ≡ Err ServeStop.NoMemory → door.new ≡ door.old }
     ensures faults { CountsFaults (result ≡ Err ServeStop.DoorFault) (D.faults door.old) (D.faults door.new) }
 {
     let (ended, starts, rooms) = match take_memory(alloc, connections, workers) {
@@ -119,7 +121,10 @@ pub fn serve<
         gate,
     );
     take_back(door);
-    end
+    match end {
+        Ok(end) => Ok(end),
+        Err(Failed) => Err(ServeStop::DoorFault),
+    }
 }
 
 /// Takes the memory of a call: its lists.
@@ -150,6 +155,10 @@ fn take_back<T>(door: &mut T)
 {}
 
 /// Serves in a scope of threads. The door comes back.
+///
+/// # Errors
+///
+/// The door failed.
 fn serve_within<
     'd,
     R: Threads + Wait + Sync,
@@ -167,23 +176,27 @@ fn serve_within<
     starts: &[Start],
     rooms: Rooms<I, O>,
     gate: &G,
-) -> (&'d mut D, Result<ServeEnd, ServeStop>)
+) -> (&'d mut D, Result<ServeEnd, Failed>)
     requires rooms { HasRooms rooms connections (length starts.now) }
     requires few { connections ≤ MAX_CONNECTIONS }
     ensures name { result.0.ghost_name ≡ door.entry.ghost_name }
     ensures served { IfOk result.1 (λ end. HasServed I.left I.faults O.written O.faults hall.now.definition (D.ends door.old) (D.ends result.0.now) end.list.items) }
     ensures count { IfOk result.1 (λ end. vec_len end.list ≡ connections) }
-    ensures faults { CountsFaults (result.1 ≡ Err ServeStop.DoorFault) (D.faults door.old) (D.faults result.0.now) }
+    ensures cut { OnErr result.1 (HasServedFewer I.left I.faults O.written O.faults hall.now.definition (D.ends door.old) (D.ends result.0.now) connections) }
+    ensures quiet { OnOk result.1 (D.faults result.0.now ≡ D.faults door.old) }
+    ensures failed { OnErr result.1 (HasRisen (D.faults door.old) (D.faults result.0.now)) }
 {
     thread::scope(
         thread::scope_env(),
         rt,
-        |scope| -> (&mut D, Result<ServeEnd, ServeStop>)
+        |scope| -> (&mut D, Result<ServeEnd, Failed>)
             requires { IsSync R.row × IsSync G.row × HasRooms rooms connections (length starts.now) × (connections ≤ MAX_CONNECTIONS) }
             ensures name { result.0.ghost_name ≡ door.entry.ghost_name }
             ensures served { IfOk result.1 (λ end. HasServed I.left I.faults O.written O.faults hall.entry.now.definition (D.ends door.entry.now) (D.ends result.0.now) end.list.items) }
             ensures count { IfOk result.1 (λ end. vec_len end.list ≡ connections) }
-            ensures faults { CountsFaults (result.1 ≡ Err ServeStop.DoorFault) (D.faults door.entry.now) (D.faults result.0.now) }
+            ensures cut { OnErr result.1 (HasServedFewer I.left I.faults O.written O.faults hall.entry.now.definition (D.ends door.entry.now) (D.ends result.0.now) connections) }
+            ensures quiet { OnOk result.1 (D.faults result.0.now ≡ D.faults door.entry.now) }
+            ensures failed { OnErr result.1 (HasRisen (D.faults door.entry.now) (D.faults result.0.now)) }
         {
             let end = serve_in(
                 scope,
@@ -203,6 +216,10 @@ fn serve_within<
 }
 
 /// Starts the eliminators, serves the connections, and then stops the eliminators.
+///
+/// # Errors
+///
+/// The door failed.
 fn serve_in<
     's,
     E: 's,
@@ -222,12 +239,14 @@ fn serve_in<
     starts: &'s [Start],
     rooms: Rooms<I, O>,
     gate: &'s G,
-) -> Result<ServeEnd, ServeStop>
+) -> Result<ServeEnd, Failed>
     requires rooms { HasRooms rooms count (length starts.now) }
     requires few { count ≤ MAX_CONNECTIONS }
     ensures served { IfOk result (λ end. HasServed I.left I.faults O.written O.faults hall.now.definition (D.ends door.old) (D.ends door.new) end.list.items) }
     ensures count { IfOk result (λ end. vec_len end.list ≡ count) }
-    ensures faults { CountsFaults (result ≡ Err ServeStop.DoorFault) (D.faults door.old) (D.faults door.new) }
+    ensures cut { OnErr result (HasServedFewer I.left I.faults O.written O.faults hall.now.definition (D.ends door.old) (D.ends door.new) count) }
+    ensures quiet { OnOk result (D.faults door.new ≡ D.faults door.old) }
+    ensures failed { OnErr result (HasRisen (D.faults door.old) (D.faults door.new)) }
 {
     let Rooms {
         mut connections,
@@ -253,7 +272,7 @@ fn serve_in<
     join_eliminators(rt, hall, working);
     match accepted {
         Ok(()) => Ok(ServeEnd { list: served }),
-        Err(Failed) => Err(ServeStop::DoorFault),
+        Err(Failed) => Err(Failed),
     }
 }
 
@@ -285,6 +304,7 @@ fn accept_all<
     ensures accepted { HasAccepted I.left I.faults O.written O.faults hall.now.definition (D.ends door.old) (D.ends door.new) connections.new.items }
     ensures count { OnOk result (vec_len connections.new ≡ count) }
     ensures few { vec_len connections.new ≤ count }
+    ensures fewer { OnErr result (vec_len connections.new < count) }
     ensures quiet { OnOk result (D.faults door.new ≡ D.faults door.old) }
     ensures failed { OnErr result (HasRisen (D.faults door.old) (D.faults door.new)) }
 {
