@@ -1,8 +1,8 @@
 -- How what came of a script is answered, and the commands of which there was no memory to read the words.
-use Rattle.std.proofs.Common.{◌≡◌, ◌⊎◌, ℕ, List, Option, Some, None, refl, sym, subst, ◌∙◌, inl, inr}
+use Rattle.std.proofs.Common.{◌≡◌, ◌⊎◌, ℕ, List, Option, Some, None, refl, sym, subst, inl, inr}
 use Rattle.std.specs.Prelude.{MatchOption, Result, Ok, Err, String}
 use Rattle.std.specs.declared.alloc.Global.{Global}
-use Rattle.edges.specs.Faults.{CountsFaults, HasRisen}
+use Rattle.edges.specs.Faults.{CountsFaults}
 use Rattle.criteria_model.specs.declared.faults.ModelFault.{ModelFault}
 use Rattle.result_file.specs.declared.verdicts.Checked.TheVariants as verdict
 use Rattle.result_file.specs.Checked.{IsToldChecked}
@@ -13,14 +13,14 @@ use Rattle.survey_server.specs.declared.commands.Ended.{Ended}
 use Rattle.survey_server.specs.declared.rank_input.RankRefusal.TheVariants.{Stopped}
 use Rattle.survey_server.specs.declared.script_runs.Stop.{Stop}
 use Rattle.survey_server.specs.declared.script_runs.Stop.TheVariants.{Definition, Script, ReadFault, WriteFault, DoorFault, NoMemory}
-use Rattle.survey_server.specs.Command.{IsCheck, IsMigrate, IsModelShape, IsRank, IsRankable, IsSampleCommand, IsValidFile, IsValidResult, SamplesShape, command_in}
-use Rattle.survey_server.specs.ScriptCommand.{DoesPlainCommand, HasInputFor, IsPlainCommand, IsSampleRunCommand, RunsAndAnswers}
+use Rattle.survey_server.specs.Command.{IsCheck, IsMigrate, IsModelShape, IsRank, IsRankable, IsSampleCommand, IsValidFile, IsValidResult, command_in}
+use Rattle.survey_server.specs.ScriptCommand.{DoesPlainCommand, HasInputFor, IsPlainCommand, RunsAndAnswers}
 use Rattle.survey_server.specs.ScriptRuns.{IsWriteFault}
 use Rattle.survey_words.specs.declared.commands.Command.{Command}
 use Rattle.survey_words.specs.declared.commands.Command.TheVariants as command
 use Rattle.survey_words.specs.declared.shapes.Shape.{Shape}
 use Rattle.survey_server.proofs.RankLaws.{memory_refused as table_refused}
-use Rattle.survey_server.proofs.StatusLaws.{done_where_model, no_worth}
+use Rattle.survey_server.proofs.StatusLaws.{no_worth}
 
 -- ---- faults
 failed_or_not : (outcome : Result RunView Stop) → IsWriteFault outcome ⊎ (¬ IsWriteFault outcome)
@@ -79,13 +79,3 @@ done_where_plain Done words told (command.Sample seed shape) is has plain check 
 done_where_plain Done words told (command.Run eliminators) is has plain check migrate rank sample = absurd (plain.no_run eliminators is)
 done_where_plain Done words told (command.RunSample seed shape eliminators) is has plain check migrate rank sample = absurd (plain.no_sample seed shape eliminators is)
 done_where_plain Done words told (command.Serve port eliminators connections) is has plain check migrate rank sample = absurd (plain.no_serve port eliminators connections is)
-
--- a sample survey is that of the shape that its words name
-pub done_where_sample : (seed : ℕ) (shape : Shape) (eliminators : ℕ) (words : List (String Global)) (told before now : Option (List ℕ)) (status : ℕ) (sink sink_now : ℕ)
-    → IsSampleRunCommand words seed shape eliminators → SamplesShape seed shape before now status → CountsFaults (status ≡ 4) sink sink_now
-    → (named : Command) → command_in words ≡ Some named → HasInputFor named told → (HasRisen sink sink_now → ⊥) → (status ≡ 0) ⊎ (status ≡ 5)
-done_where_sample seed shape eliminators words told before now status sink sink_now is sampled writes named names has no_write =
-    let same : Some named ≡ Some (command.RunSample seed shape eliminators) = sym names ∙ is in
-    let one : named ≡ command.RunSample seed shape eliminators = cc in
-    let makes : IsModelShape shape = subst (λ (n : Command). HasInputFor n told) one has in
-    done_where_model seed shape before now status sampled makes (λ fails. no_write (writes.rises fails))

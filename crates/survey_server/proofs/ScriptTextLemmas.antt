@@ -5,7 +5,7 @@ use Rattle.std.specs.List.{AllZip}
 use Rattle.std.proofs.Math.Seq.{drop-append_seam, drop-cons, take-append_seam}
 use Rattle.std.proofs.lemmas.Bool.{eq-eqb}
 use Rattle.std.proofs.lemmas.List.{length-map, length-append}
-use Rattle.std.proofs.lemmas.Option.{slice_get_within, slice_get-get_or}
+use Rattle.std.proofs.lemmas.Option.{slice_get_within}
 use Rattle.edges.specs.Told.{Appends, AppendsPrefix}
 use Rattle.edges.proofs.ToldLemmas.{Appends-append}
 use Rattle.criteria_model.specs.Criteria.{Criteria}
@@ -16,6 +16,7 @@ use Rattle.json_forms.specs.declared.replies.Reply.TheVariants as reply
 use Rattle.result_file.specs.Files.{IsOut}
 use Rattle.result_file.proofs.OutLemmas.{out_failed}
 use Rattle.row_laws.specs.Items.{item_at}
+use Rattle.row_laws.proofs.ItemLemmas.{item_inside}
 use Rattle.session_protocol.specs.Exchanges.{asked_by}
 use Rattle.session_protocol.specs.Sessions.{CanBeWritten}
 use Rattle.session_protocol.proofs.WritingLemmas.{can_be_written}
@@ -52,11 +53,6 @@ out_all before now whole h = subst (λ (l : List ℕ). Appends before now l) (sy
 pub item_within : {X : Type 0} (items : List X) (n : ℕ) (x : X) → item_at items n ≡ Some x → (1 ≤ n) × (n ≤ length items)
 item_within items zero x at = absurd (cc)
 item_within items (suc k) x at = (omega arith, omega (arith, slice_get_within items k x at))
-
-item_there : {X : Type 0} (items : List X) (n : ℕ) → 1 ≤ n → n ≤ length items → (x : X) × (item_at items n ≡ Some x)
-item_there items zero low high = absurd (omega arith)
-item_there [] (suc k) low high = absurd (omega arith)
-item_there (item ∷ items) (suc k) low high = (get_or (item ∷ items) k item, slice_get-get_or (item ∷ items) k item (omega arith))
 
 -- ---- replies that stand
 -- each message of the session has a reply that is right in the final journal of its respondent's survey
@@ -107,7 +103,7 @@ all_stand script workers end runs whole is =
     let P = λ (respondent : ℕ) (run : SessionRun). item_at end.states respondent ≡ item_at end.states run.respondent → Stands criteria end.states run in
     let there : (respondent : ℕ) → 1 ≤ respondent → respondent ≤ most → Each (λ (run : SessionRun). run.respondent ≡ respondent → P respondent run) runs =
     λ respondent low high.
-    let found : (state : Surveyed) × (item_at end.states respondent ≡ Some state) = item_there end.states respondent low (omega (arith, is.surveys)) in
+    let found : (state : Surveyed) × (item_at end.states respondent ≡ Some state) = item_inside end.states respondent low (omega (arith, is.surveys)) in
     let run_is : IsSurveyRun criteria workers (of_respondent respondent runs) found.0 = is.each respondent found.0 found.1 in
     let mine : List SessionRun = of_respondent respondent runs in
     let Right = λ (run : SessionRun). All (λ (one : MessageRun). IsReplyIn found.0.listed run.desk found.0.journal (asked_by one.message) one.came) run.messages in

@@ -5,7 +5,7 @@ use Rattle.std.specs.declared.alloc.Global.{Global}
 use Rattle.edges.specs.Told.{Appends, AppendsPrefix}
 use Rattle.json_forms.specs.DefinitionViews.{DefinitionView}
 use Rattle.survey_hall.specs.declared.serving.ServeEnd.{ServeEnd}
-use Rattle.survey_hall.specs.Serving.{HasServed}
+use Rattle.survey_hall.specs.Serving.{HasServed, HasServedFewer}
 use Rattle.survey_server.specs.declared.commands.Ended.{Ended}
 use Rattle.survey_server.specs.declared.script_runs.Stop.{Stop}
 use Rattle.survey_server.specs.declared.script_runs.Stop.TheVariants as stop
@@ -61,19 +61,26 @@ module _ {I O D : Type 0} (left : I → Option (List ℕ)) (read_faults : I → 
     pub served : HasServed left read_faults written write_faults definition (ends door) (ends door_now) end.list.items
     pub count : vec_len end.list ≡ connections
 
-  -- why not: the first line is no definition, or says nothing, and the door is untouched; or the door failed, or there was no memory
-  abbrev pub StopsServing : Option (List ℕ) → D → D → Stop → Type 0
-  StopsServing told door door_now (stop.Definition fault) = IfSome told (λ text. leading_definition text ≡ Err fault) × (door_now ≡ door)
-  StopsServing told door door_now stop.ReadFault = door_now ≡ door
-  StopsServing told door door_now stop.DoorFault = Unit {0}
-  StopsServing told door door_now stop.NoMemory = Unit {0}
-  StopsServing told door door_now (stop.Script line part) = ⊥
-  StopsServing told door door_now (stop.WriteFault end) = ⊥
+  -- the door failed: it didn't listen, or gave fewer connections, and those were served
+  pub record ServesFewer (told : Option (List ℕ)) (connections : ℕ) (door door_now : D) : Type 0 where
+    pub definition : DefinitionView
+    pub read : IfSome told (λ text. leading_definition text ≡ Ok definition)
+    pub served : HasServedFewer left read_faults written write_faults definition (ends door) (ends door_now) connections
+
+  -- why not: the first line is no definition, or says nothing, and the door is untouched; or the door failed; or there was no memory,
+  -- and no connection was accepted
+  abbrev pub StopsServing : Option (List ℕ) → ℕ → D → D → Stop → Type 0
+  StopsServing told connections door door_now (stop.Definition fault) = IfSome told (λ text. leading_definition text ≡ Err fault) × (door_now ≡ door)
+  StopsServing told connections door door_now stop.ReadFault = door_now ≡ door
+  StopsServing told connections door door_now stop.DoorFault = ServesFewer told connections door door_now
+  StopsServing told connections door door_now stop.NoMemory = ends door_now ≡ ends door
+  StopsServing told connections door door_now (stop.Script line part) = ⊥
+  StopsServing told connections door door_now (stop.WriteFault end) = ⊥
 
   -- the one or the other
   abbrev pub IsServeOutcome : Option (List ℕ) → ℕ → D → D → Result ServeEnd Stop → Type 0
   IsServeOutcome told connections door door_now outcome =
-      MatchResult outcome (ServesDefinition told connections door door_now) (StopsServing told door door_now)
+      MatchResult outcome (ServesDefinition told connections door door_now) (StopsServing told connections door door_now)
 
   -- and that answered. `before` and `now` are what a sink holds, where it is known
   pub record ServesAndAnswers (told : Option (List ℕ)) (connections : ℕ) (door door_now : D) (before now : Option (List ℕ)) (ended : Ended) : Type 0 where
