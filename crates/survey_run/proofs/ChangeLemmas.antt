@@ -74,10 +74,6 @@ all_of P i old new front changed [] was now long each none =
 all_of P i old new front changed (z ∷ zs) was now long each none =
     let a : length new ≡ length changed + suc (length zs) = ap {B = ℕ} length now ∙ length-append changed (z ∷ zs) in absurd (omega (arith, a, long, none))
 
--- all are changed
-pub all_changed : {X : Type 0} (P : ℕ → X → X → Type 0) (Q : ℕ → X → Type 0) (i : ℕ) (old new : List X) → IsChangedTo P Q i old new → length new ≤ i → EachZipFrom P 0 old new
-all_changed P Q i old new part none = all_of P i old new part.front part.changed part.rest part.was part.now part.long part.each none
-
 pub changed_length : {X : Type 0} (P : ℕ → X → X → Type 0) (Q : ℕ → X → Type 0) (i : ℕ) (old new : List X) → IsChangedTo P Q i old new → length new ≡ length old
 changed_length P Q i old new part =
     let a = ap {B = ℕ} length part.was ∙ length-append part.front part.rest in

@@ -29,20 +29,6 @@ zip_map P Q n [] (v ∷ vs) f each = absurd each
 zip_map P Q n (u ∷ us) [] f each = absurd each
 zip_map P Q n (u ∷ us) (v ∷ vs) f each = (f n u v each.0, zip_map P Q (n + 1) us vs f each.1)
 
-pub drop_at : {X : Type 0} (xs : List X) (k : ℕ) (x : X) → slice_get xs k ≡ Some x → drop k xs ≡ x ∷ drop (suc k) xs
-drop_at [] k x is = let e : None ≡ Some x = is in cc
-drop_at (y ∷ ys) zero x is = let e : y ≡ x = cc (is) in rw e refl
-drop_at (y ∷ ys) (suc k) x is = drop_at ys k x is
-
--- the front of two lists that are left
-pub zip_front : {X Y : Type 0} (P : ℕ → X → Y → Type 0) (n : ℕ) (xs : List X) (k : ℕ) (x : X) (y : Y) (ys : List Y) → slice_get xs k ≡ Some x
-    → EachZipFrom P n (drop k xs) (y ∷ ys) → P n x y × EachZipFrom P (n + 1) (drop (suc k) xs) ys
-zip_front P n xs k x y ys is each = rw (drop_at xs k x is) at each
-
-pub all_zip_front : {X Y : Type 0} (P : X → Y → Type 0) (xs : List X) (k : ℕ) (x : X) (y : Y) (ys : List Y) → slice_get xs k ≡ Some x
-    → AllZip P (drop k xs) (y ∷ ys) → P x y × AllZip P (drop (suc k) xs) ys
-all_zip_front P xs k x y ys is each = rw (drop_at xs k x is) at each
-
 pub all_zip_length : {X Y : Type 0} (P : X → Y → Type 0) (xs : List X) (ys : List Y) → AllZip P xs ys → length xs ≡ length ys
 all_zip_length P [] [] each = refl
 all_zip_length P [] (v ∷ vs) each = absurd each
@@ -54,10 +40,6 @@ all_zip_push P [] [] x y each p = (p, tt)
 all_zip_push P [] (v ∷ vs) x y each p = absurd each
 all_zip_push P (u ∷ us) [] x y each p = absurd each
 all_zip_push P (u ∷ us) (v ∷ vs) x y each p = (each.0, all_zip_push P us vs x y each.1 p)
-
-pub drop_whole : {X : Type 0} (xs : List X) → drop (length xs) xs ≡ []
-drop_whole [] = refl
-drop_whole (x ∷ xs) = drop_whole xs
 
 pub all_zip_at : {X Y : Type 0} (P : X → Y → Type 0) (xs : List X) (k : ℕ) (z : X) (y : Y) (ys : List Y) → z ≡ get_or xs k z
     → AllZip P (drop k xs) (y ∷ ys) → (slice_get xs k ≡ Some z) × P z y × AllZip P (drop (suc k) xs) ys
@@ -72,18 +54,6 @@ zip_from_at P n [] zero z y ys is each = absurd each
 zip_from_at P n [] (suc k) z y ys is each = absurd each
 zip_from_at P n (x ∷ xs) zero z y ys is each = rw is (refl, each.0, each.1)
 zip_from_at P n (x ∷ xs) (suc k) z y ys is each = zip_from_at P n xs k z y ys is each
-
-pub all_zip_done : {X Y : Type 0} (P : X → Y → Type 0) (xs : List X) (k : ℕ) → AllZip P (drop k xs) [] → take k xs ≡ xs
-all_zip_done P [] zero each = refl
-all_zip_done P [] (suc k) each = refl
-all_zip_done P (x ∷ xs) zero each = absurd each
-all_zip_done P (x ∷ xs) (suc k) each = ap (λ zs. x ∷ zs) (all_zip_done P xs k each)
-
-pub zip_from_done : {X Y : Type 0} (P : ℕ → X → Y → Type 0) (n : ℕ) (xs : List X) (k : ℕ) → EachZipFrom P n (drop k xs) [] → take k xs ≡ xs
-zip_from_done P n [] zero each = refl
-zip_from_done P n [] (suc k) each = refl
-zip_from_done P n (x ∷ xs) zero each = absurd each
-zip_from_done P n (x ∷ xs) (suc k) each = ap (λ zs. x ∷ zs) (zip_from_done P n xs k each)
 
 pub take_one_more : {X : Type 0} (xs : List X) (k n : ℕ) (x : X) → n ≡ k + 1 → slice_get xs k ≡ Some x → take n xs ≡ take k xs ++ x ∷ []
 take_one_more xs k n x e is = let s : n ≡ suc k = omega arith in rw s (take_next xs k x is)

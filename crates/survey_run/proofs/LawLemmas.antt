@@ -29,7 +29,7 @@ use Rattle.survey_state.specs.States.{Surveyed}
 use Rattle.session_protocol.specs.Exchanges.{IsAnswered, asked_by, reply_by}
 use Rattle.session_protocol.specs.Sessions.{CanBeWritten}
 use Rattle.session_protocol.proofs.ReplyCases.{answer_within, writable}
-use Rattle.survey_run.specs.Laws.{DeskReadsWhatItWrote, EachEliminateHasItsMaker, EachEventHasItsReply, EachReplyCanBeWritten, EachReplyStands, OneDeskRunsPlain}
+use Rattle.survey_run.specs.Laws.{DeskReadsWhatItWrote, EachEliminateHasItsMaker, EachEventHasItsReply, EachReplyStands, OneDeskRunsPlain}
 use Rattle.survey_run.specs.Runs.{IsSurveyRun}
 use Rattle.survey_run.specs.Sessions.{MessageRun, SessionRun, all_exchanges, message_exchange, message_exchanges, message_reply, of_desk, replies_of}
 
@@ -305,45 +305,3 @@ one_desk_runs_plain_lem criteria workers (s ∷ ss) state desk is all some =
     only_desk state desk (s ∷ ss) is.desks is.eliminators is.listed is.legal is.makes
     (All-Each (λ (run : DeskRun). run.exchanges ≡ all_exchanges (of_desk run.desk (s ∷ ss))) is.desks is.said)
     (All-Each (λ (run : DeskRun). Any (λ (session : SessionRun). session.desk ≡ run.desk) (s ∷ ss)) is.desks is.only) all there
-
--- ---- writing
--- the reply to whatever message asks so can be written
-WritableTo : Listed → List Event → Exchange → Type 0
-WritableTo listed journal exchange = (message : Option Message) → asked_by message ≡ exchange.request → CanBeWritten listed journal (reply_by message exchange.reply)
-
-each_writable : (listed : Listed) (desk : ℕ) (before after : Seen) (exchanges : List Exchange) (journal : List Event) → Conversation listed desk before after exchanges
-    → IsPrefix after.journal journal → Each (WritableTo listed journal) exchanges
-unfolding WritableTo
-each_writable listed desk before after [] journal talk within = tt
-each_writable listed desk before after (exchange ∷ exchanges) journal (middle, call, rest) within =
-    let inside = prefix_trans middle.journal after.journal journal (conversation_longer listed desk middle after exchanges rest) within in
-    let answered : (message : Option Message) → asked_by message ≡ exchange.request → IsAnswered listed desk before middle message (reply_by message exchange.reply) =
-    λ message asked. record { came = exchange.reply; call = subst (λ (r : Request). IsCall listed desk before middle r exchange.reply) (sym asked) call; replied = refl } in (
-      (λ message asked. record {
-        writable = writable listed desk before middle message (reply_by message exchange.reply) (answered message asked);
-        within = λ count same.
-            omega (arith, answer_within listed desk before middle message (reply_by message exchange.reply) (answered message asked) count same, prefix_length middle.journal journal inside);
-      }),
-      each_writable listed desk middle after exchanges journal rest within,
-    )
-
-welcome_writable : (listed : Listed) (journal : List Event) (classes desk : ℕ) → CanBeWritten listed journal (Welcome classes desk)
-welcome_writable listed journal classes desk = record { writable = tt; within = λ count same. absurd (cc) }
-
-replies_writable : (listed : Listed) (journal : List Event) (messages : List MessageRun) → Each (λ (one : MessageRun). WritableTo listed journal (message_exchange one)) messages
-    → Each (CanBeWritten listed journal) (map message_reply messages)
-unfolding WritableTo
-replies_writable listed journal [] each = tt
-replies_writable listed journal (one ∷ messages) each = (each.0 one.message refl, replies_writable listed journal messages each.1)
-
-pub each_reply_can_be_written_lem : EachReplyCanBeWritten
-each_reply_can_be_written_lem criteria workers classes sessions state is = λ k session within.
-    let one = get_or sessions k session in
-    let talk = desk_talk criteria workers sessions state one.desk is (is.each k session within) in
-    let can = each_writable state.listed one.desk unseen talk.seen (all_exchanges (of_desk one.desk sessions)) state.journal talk.talk talk.within in
-    let Has = λ (s : SessionRun). s.desk ≡ one.desk → All (λ (m : MessageRun). WritableTo state.listed state.journal (message_exchange m)) s.messages in
-    let said = Each-All Has sessions (each_session (WritableTo state.listed state.journal) one.desk sessions can) k session within refl in
-    Each-All (CanBeWritten state.listed state.journal) (replies_of classes one) (
-      welcome_writable state.listed state.journal classes one.desk,
-      replies_writable state.listed state.journal one.messages (All-Each (λ (m : MessageRun). WritableTo state.listed state.journal (message_exchange m)) one.messages said),
-    )

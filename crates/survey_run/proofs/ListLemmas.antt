@@ -4,9 +4,6 @@ use Rattle.std.specs.List.{filter, flat_map, AllByRecursion}
 use Rattle.std.proofs.lemmas.Option.{none-some, same_Some}
 use Rattle.survey_run.specs.Each.{EachZipFrom}
 
-pub one_there : {X : Type 0} (o : Option X) (x y : X) → o ≡ Some x → o ≡ Some y → x ≡ y
-one_there o x y one other = same_Some x y (sym one ∙ other)
-
 -- an element of a list, where there is one of the other
 pub record ZipGot {X Y : Type 0} (P : ℕ → X → Y → Type 0) (n k : ℕ) (xs : List X) (y : Y) : Type 0 where
   pub item : X

@@ -1,11 +1,11 @@
 -- A desk beside eliminators alone.
-use Rattle.std.proofs.Common.{◌≡◌, ◌∙◌, ℕ, ◌+◌, List, [], ◌∷◌, ◌++◌, length, All, Some, slice_get, ap, sym, subst, arith, refl}
+use Rattle.std.proofs.Common.{◌≡◌, ◌∙◌, ℕ, ◌+◌, List, ◌++◌, length, Some, slice_get, ap, arith}
 use Rattle.std.specs.List.{AllByRecursion, flat_map}
 use Rattle.std.proofs.lemmas.List.Elements.{All-from_recursion}
 use mathlib.Core.List.{IsPrefix}
 use Rattle.survey_core.specs.declared.events.Event.{Event}
 use Rattle.survey_core.proofs.ListSteps.{All-Each}
-use Rattle.survey_replies.specs.Calls.{Seen, HasEliminateOf, occurrences}
+use Rattle.survey_replies.specs.Calls.{Seen, occurrences}
 use Rattle.survey_replies.specs.JournalLaws.{WorkerRun}
 use Rattle.survey_replies.specs.PlainLaws.{IsAlone}
 use Rattle.survey_replies.proofs.CallLemmas.{prefix_get}

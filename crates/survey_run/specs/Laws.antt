@@ -12,9 +12,8 @@ use Rattle.survey_replies.specs.CallLaws.{IsNoEliminate}
 use Rattle.survey_replies.specs.PlainRun.{IsPlainRun, plain_start}
 use Rattle.survey_state.specs.States.{Surveyed}
 use Rattle.session_protocol.specs.Exchanges.{asked_by}
-use Rattle.session_protocol.specs.Sessions.{CanBeWritten}
 use Rattle.survey_run.specs.Runs.{IsSurveyRun}
-use Rattle.survey_run.specs.Sessions.{SessionRun, all_exchanges, of_desk, replies_of}
+use Rattle.survey_run.specs.Sessions.{SessionRun, all_exchanges, of_desk}
 
 -- each reply is the right one in the final journal, at its place: by the reply law, with certificates that hold, with each class ranked that
 -- it needs ranked, and with its events there
@@ -51,9 +50,3 @@ OneDeskRunsPlain =
     → IsPlainRun state.listed plain_start (all_exchanges sessions)
     × ((others : List Exchange) → map (λ exchange. exchange.request) others ≡ map (λ exchange. exchange.request) (all_exchanges sessions)
     → IsPlainRun state.listed plain_start others → map (λ exchange. gist_of exchange.reply) others ≡ map (λ exchange. gist_of exchange.reply) (all_exchanges sessions))
-
--- each reply can be written with the final journal
-abbrev pub EachReplyCanBeWritten : Type 0
-EachReplyCanBeWritten =
-    (criteria : Criteria) (workers classes : ℕ) (sessions : List SessionRun) (state : Surveyed) → IsSurveyRun criteria workers sessions state
-    → All (λ session. All (CanBeWritten state.listed state.journal) (replies_of classes session)) sessions

@@ -1,4 +1,4 @@
-use Rattle.std.proofs.Common.{◌≡◌, ◌∙◌, ◌++◌, ℕ, List, [], ◌∷◌, ap, refl}
+use Rattle.std.proofs.Common.{◌∙◌, ◌++◌, ℕ, List, [], ◌∷◌, ap, refl}
 use Rattle.shared_survey.specs.Passes.{pass_seen, survey_listed}
 use Rattle.survey_replies.proofs.CallLemmas.{prefix_trans}
 use Rattle.survey_run.specs.Tops.{HasTop}

@@ -1,7 +1,5 @@
-use Rattle.std.proofs.Common.{◌≡◌, ◌∙◌, ◌+◌, ◌<◌, ◌≤◌, [], ◌∷◌, length, rules, arith}
+use Rattle.std.proofs.Common.{◌≡◌, ◌∙◌, [], length, rules, arith}
 use Rattle.std.specs.Prelude.{vec_len}
-use Rattle.shared_survey.specs.Passes.{pass_seen}
-use Rattle.survey_replies.specs.Calls.{unseen}
 use Rattle.survey_run.proofs.PlanLemmas.{rooms_of}
 use Rattle.survey_run.proofs.sample_run.sample_ready.Goals as goal
 
