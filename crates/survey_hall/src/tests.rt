@@ -376,6 +376,11 @@ fn door_fault(rt: HostRuntime) -> Result<(), Fail> {
     Ok(())
 }
 
+/// Whoever comes by `at` waits for `until`.
+fn hold(at: GatePoint, until: GatePoint) -> Hold {
+    Hold { at, until }
+}
+
 /// Whether these connections were served as one of the rows says, and no hold of the gate was missed.
 fn meets_holds<R: Threads + Wait + Sync>(
     rt: &R,
@@ -407,16 +412,7 @@ fn connection_waits_for_hand_in(rt: HostRuntime) -> Result<(), Fail> {
         place: 2,
         eliminated: true,
     };
-    let holds = [
-        Hold {
-            at: begins,
-            until: begins,
-        },
-        Hold {
-            at: begins,
-            until: handed_in,
-        },
-    ];
+    let holds = [hold(begins, begins), hold(begins, handed_in)];
     let said: &[&[u8]] = &[HELLO, NEXT, ANSWER, NEXT, BYE];
     let callers = [(said, 0)];
     let rows: [&[Told]; 1] = [&[to_bye(0, 4, 4)]];
@@ -432,14 +428,8 @@ fn solve_outside_turn(rt: HostRuntime) -> Result<(), Fail> {
         place: 2,
     };
     let holds = [
-        Hold {
-            at: GatePoint::NextBegins { desk: 2 },
-            until: taken,
-        },
-        Hold {
-            at: taken,
-            until: GatePoint::NextAnswered { desk: 2 },
-        },
+        hold(GatePoint::NextBegins { desk: 2 }, taken),
+        hold(taken, GatePoint::NextAnswered { desk: 2 }),
     ];
     let first: &[&[u8]] = &[HELLO, NEXT, ANSWER, BYE];
     let second: &[&[u8]] = &[HELLO_2, NEXT, BYE];
@@ -454,16 +444,7 @@ fn solve_outside_turn(rt: HostRuntime) -> Result<(), Fail> {
 fn connections_at_once(rt: HostRuntime) -> Result<(), Fail> {
     let first = GatePoint::NextBegins { desk: 1 };
     let second = GatePoint::NextBegins { desk: 2 };
-    let holds = [
-        Hold {
-            at: first,
-            until: second,
-        },
-        Hold {
-            at: second,
-            until: first,
-        },
-    ];
+    let holds = [hold(first, second), hold(second, first)];
     let one: &[&[u8]] = &[HELLO, NEXT, BYE];
     let other: &[&[u8]] = &[HELLO_2, NEXT, BYE];
     let callers = [(one, 0), (other, 0)];
