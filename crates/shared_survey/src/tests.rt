@@ -252,7 +252,7 @@ fn two_desks_at_once(rt: HostRuntime) -> Result<(), Fail> {
     Ok(())
 }
 
-/// Works at the one survey of a job line until it is told to stop. False where there was no memory to begin.
+/// Works at the one survey of a job line until it is told to stop, and gives the pass back. Does nothing where there is no memory.
 fn eliminates<'a, R: Wait + Sync, G: Gate>(
     rt: &'a R,
     alloc: Global,
@@ -260,20 +260,24 @@ fn eliminates<'a, R: Wait + Sync, G: Gate>(
     pass: Pass,
     mut end: JobEnd,
     gate: &G,
-) -> bool
-    requires pass { IsPassOf survey.now pass }
+) -> Pass
+    requires pass { IsPassOf survey.now pass × (pass_weight pass ≡ 1) }
     requires surveys { end.surveys ≡ 1 }
+    ensures { IsPassOf survey.now result × (pass_weight result ≡ 1) }
 {
     let model = survey.classes.model();
     let Ok(mut tools) = Tools::reserve(alloc, &model) else {
-        return false;
+        return pass;
     };
     let Ok(mut benches) = Benches::reserve(alloc, 1) else {
-        return false;
+        return pass;
     };
     benches.push(SurveyBench::hold(rt, survey, pass, 1));
     worker(rt, &mut benches, 1, &model, &mut tools, &mut end, gate);
-    true
+    let Some(bench) = benches.pop() else {
+        unreachable!()
+    };
+    bench.into_pass()
 }
 
 /// Asks a question and answers it, left.
@@ -285,77 +289,87 @@ fn ask_and_answer<R: Respondent>(desk: &mut R)
     desk.answer(1, Side::Left);
 }
 
-/// The worker that eliminated a class at this place of the journal.
-fn worker_at<R: Respondent>(desk: &mut R, place: u32) -> Option<u8>
-    requires waits { R.can_wait }
-    requires place { 1 ≤ place }
-    ensures { R.about desk.new ≡ R.about desk.old }
-{
-    if desk.length() < place {
-        return None;
-    }
-    match desk.event(place) {
-        Event::Eliminate { worker, .. } => Some(worker),
-        _ => None,
-    }
-}
-
-/// Asks, answers and asks again. Gives the worker that eliminated a class before the second question.
-fn session<'a, R: Wait + Sync, G: Gate>(
+/// The same by a pass that sends jobs.
+fn ask_and_answer_by<'a, R: Wait + Sync, G: Gate>(
     rt: &'a R,
     survey: &'a Survey,
     pass: &'a mut Pass,
     end: &'a JobEnd,
     gate: &'a G,
-) -> Option<u8>
+)
     requires pass { IsPassOf survey.now pass.old }
     requires desk { IsDesk (desk_of pass.old) }
     requires surveys { end.now.surveys ≡ 1 }
+    ensures { StaysPass survey.now pass.old pass.new }
 {
     let mut desk = Desk::lend(rt, survey, pass, Some(end), 1, gate);
     ask_and_answer(&mut desk);
-    is_complete(&mut desk);
-    worker_at(&mut desk, 3)
 }
 
-/// The same, and then the eliminator is told to stop.
-fn whole_session<R: Wait + Sync, G: Gate>(
+/// Asks once, and then tells the eliminator to stop.
+fn asks_once<R: Wait + Sync, G: Gate>(
     rt: &R,
     survey: &Survey,
     mut pass: Pass,
     end: JobEnd,
     gate: &G,
-) -> Option<u8>
+) -> Pass
     requires pass { IsPassOf survey.now pass }
     requires desk { IsDesk (desk_of pass) }
-    requires surveys { end.surveys ≡ 1 }
+    ensures { StaysPass survey.now pass result }
 {
-    let worker = session(rt, survey, &mut pass, &end, gate);
+    survey.next(rt, &mut pass, gate);
     end.stop(rt);
-    worker
+    pass
 }
 
-/// A session beside an eliminator: the worker that eliminated a class, and whether the eliminator could begin.
-fn session_beside_worker<R: Threads + Wait + Sync, G: Gate + Sync>(
+/// Desk 1 asks and answers, and then this desk asks beside an eliminator. What the survey came to.
+fn asked_beside_worker<R: Threads + Wait + Sync, G: Gate + Sync>(
     rt: &R,
     alloc: Global,
     gate: &G,
-) -> Result<(Option<u8>, bool), Fail> {
+    desk: u8,
+) -> Result<State, Fail>
+    requires { IsDesk desk }
+{
     let (survey, mut whole) = survey_of(alloc, &[3, 2], 2, 3)?;
-    let desk = survey.pass(alloc, &mut whole, 1)?;
-    let bench = survey.worker_pass(&mut whole);
     let end = job_line(alloc, 1)?;
     let other = end.another(alloc)?;
+    let mut first = survey.pass(alloc, &mut whole, 1)?;
+    ask_and_answer_by(rt, &survey, &mut first, &end, gate);
+    survey.join(&mut whole, first);
+    let next = survey.pass(alloc, &mut whole, desk)?;
+    let bench = survey.worker_pass(&mut whole);
     let lent = &survey;
-    Ok(join(
+    let (next, bench) = join(
         rt,
-        || -> Option<u8>
-            requires { IsSync R.row × IsSync G.row × IsPassOf lent.now desk × IsDesk (desk_of desk) × (end.surveys ≡ 1) }
-        { whole_session(rt, lent, desk, end, gate) },
-        || -> bool
-            requires { IsSync R.row × IsSync G.row × IsPassOf lent.now bench × (other.surveys ≡ 1) }
+        || -> Pass
+            requires { IsSync R.row × IsSync G.row × IsPassOf lent.now next × IsDesk (desk_of next) × (pass_weight next ≡ 1) }
+            ensures { IsPassOf lent.entry.now result × (pass_weight result ≡ 1) }
+        { asks_once(rt, lent, next, end, gate) },
+        || -> Pass
+            requires { IsSync R.row × IsSync G.row × IsPassOf lent.now bench × (pass_weight bench ≡ 1) × (other.surveys ≡ 1) }
+            ensures { IsPassOf lent.entry.now result × (pass_weight result ≡ 1) }
         { eliminates(rt, alloc, lent, bench, other, gate) },
-    ))
+    );
+    survey.join(&mut whole, next);
+    survey.join(&mut whole, bench);
+    Ok(survey.close(whole))
+}
+
+/// The question on class 1 and its answer, the elimination of class 2, and the question on class 3 are all.
+fn ends_with(rt: &impl Abort, state: &State, worker: u8, desk: u8) {
+    assert!(rt; state.length() == 4);
+    let eliminates = match state.event(3) {
+        Event::Eliminate { worker, place, .. } => Some((worker, place)),
+        _ => None,
+    };
+    assert!(rt; eliminates == Some((worker, 2)));
+    let asks = match state.event(4) {
+        Event::Issue { desk, place, .. } => Some((desk, place)),
+        _ => None,
+    };
+    assert!(rt; asks == Some((desk, 3)));
 }
 
 /// The second question waits until the class that the answer ranks was handed in.
@@ -367,103 +381,28 @@ fn session_waits_for_hand_in(rt: HostRuntime) -> Result<(), Fail> {
         place: 2,
         eliminated: true,
     };
-    let holds = [
-        Hold {
-            at: begins,
-            until: begins,
-        },
-        Hold {
-            at: begins,
-            until: handed_in,
-        },
-    ];
+    let holds = [(begins, begins), (begins, handed_in)].map(|(at, until)| Hold { at, until });
     let gate = ScriptGate::new(rt.alloc(), &holds)?;
-    let (worker, began) = session_beside_worker(&rt, rt.alloc(), &gate)?;
-    assert!(rt; began);
-    assert!(rt; worker == Some(1));
+    let state = asked_beside_worker(&rt, rt.alloc(), &gate, 1)?;
     assert!(rt; !gate.missed());
+    ends_with(&rt, &state, 1, 1);
     Ok(())
 }
 
-/// Asks once, and then tells the eliminator to stop. True where a question was asked.
-fn asks_once<R: Wait + Sync, G: Gate>(
-    rt: &R,
-    survey: &Survey,
-    mut pass: Pass,
-    end: JobEnd,
-    gate: &G,
-) -> bool
-    requires pass { IsPassOf survey.now pass }
-    requires desk { IsDesk (desk_of pass) }
-{
-    let asks = asked(rt, survey, &mut pass, gate).is_some();
-    end.stop(rt);
-    asks
-}
-
-/// Asks a question and answers it, by a pass that sends jobs.
-fn ask_and_answer_by<'a, R: Wait + Sync, G: Gate>(
-    rt: &'a R,
-    survey: &'a Survey,
-    pass: &'a mut Pass,
-    end: &'a JobEnd,
-    gate: &'a G,
-)
-    requires pass { IsPassOf survey.now pass.old }
-    requires desk { IsDesk (desk_of pass.old) }
-    requires surveys { end.now.surveys ≡ 1 }
-{
-    let mut desk = Desk::lend(rt, survey, pass, Some(end), 1, gate);
-    ask_and_answer(&mut desk);
-}
-
-/// A desk asks while an eliminator has a job: whether it got a question, and whether the eliminator could begin.
-fn asks_beside_worker<R: Threads + Wait + Sync, G: Gate + Sync>(
-    rt: &R,
-    alloc: Global,
-    gate: &G,
-) -> Result<(bool, bool), Fail> {
-    let (survey, mut whole) = survey_of(alloc, &[3, 2], 2, 4)?;
-    let mut first = survey.pass(alloc, &mut whole, 1)?;
-    let second = survey.pass(alloc, &mut whole, 2)?;
-    let bench = survey.worker_pass(&mut whole);
-    let end = job_line(alloc, 1)?;
-    let other = end.another(alloc)?;
-    ask_and_answer_by(rt, &survey, &mut first, &end, gate);
-    let lent = &survey;
-    Ok(join(
-        rt,
-        || -> bool
-            requires { IsSync R.row × IsSync G.row × IsPassOf lent.now second × IsDesk (desk_of second) }
-        { asks_once(rt, lent, second, end, gate) },
-        || -> bool
-            requires { IsSync R.row × IsSync G.row × IsPassOf lent.now bench × (other.surveys ≡ 1) }
-        { eliminates(rt, alloc, lent, bench, other, gate) },
-    ))
-}
-
-/// A desk gets its question while an eliminator is about to solve: it holds no turn.
+/// A desk gets its question while an eliminator is about to solve, which holds no turn.
 #[test]
 fn solve_outside_turn(rt: HostRuntime) -> Result<(), Fail> {
     let taken = GatePoint::JobTaken {
         worker: 1,
         place: 2,
     };
-    let holds = [
-        Hold {
-            at: GatePoint::NextBegins { desk: 2 },
-            until: taken,
-        },
-        Hold {
-            at: taken,
-            until: GatePoint::NextAnswered { desk: 2 },
-        },
-    ];
+    let begins = GatePoint::NextBegins { desk: 2 };
+    let answered = GatePoint::NextAnswered { desk: 2 };
+    let holds = [(begins, taken), (taken, answered)].map(|(at, until)| Hold { at, until });
     let gate = ScriptGate::new(rt.alloc(), &holds)?;
-    let (asks, began) = asks_beside_worker(&rt, rt.alloc(), &gate)?;
-    assert!(rt; asks);
-    assert!(rt; began);
+    let state = asked_beside_worker(&rt, rt.alloc(), &gate, 2)?;
     assert!(rt; !gate.missed());
+    ends_with(&rt, &state, 0, 2);
     Ok(())
 }
 
