@@ -1,3 +1,4 @@
 pub mod StageLemmas
 pub mod SeatLemmas
+pub mod BenchLemmas
 pub mod Crosses

@@ -306,6 +306,25 @@ fn ask_and_answer_by<'a, R: Wait + Sync, G: Gate>(
     ask_and_answer(&mut desk);
 }
 
+/// Desk 1 asks and answers.
+fn answered_once<R: Wait + Sync, G: Gate>(
+    rt: &R,
+    alloc: Global,
+    survey: &Survey,
+    whole: &mut Pass,
+    end: &JobEnd,
+    gate: &G,
+) -> Result<(), Fail>
+    requires pass { IsPassOf survey.now whole.old × (2 ≤ pass_weight whole.old) }
+    requires surveys { end.now.surveys ≡ 1 }
+    ensures { IfOk result (λ _. IsPassOf survey.now whole.new × (pass_weight whole.new ≡ pass_weight whole.old)) }
+{
+    let mut pass = survey.pass(alloc, whole, 1)?;
+    ask_and_answer_by(rt, survey, &mut pass, end, gate);
+    survey.join(whole, pass);
+    Ok(())
+}
+
 /// Asks once, and then tells the eliminator to stop.
 fn asks_once<R: Wait + Sync, G: Gate>(
     rt: &R,
@@ -335,9 +354,7 @@ fn asked_beside_worker<R: Threads + Wait + Sync, G: Gate + Sync>(
     let (survey, mut whole) = survey_of(alloc, &[3, 2], 2, 3)?;
     let end = job_line(alloc, 1)?;
     let other = end.another(alloc)?;
-    let mut first = survey.pass(alloc, &mut whole, 1)?;
-    ask_and_answer_by(rt, &survey, &mut first, &end, gate);
-    survey.join(&mut whole, first);
+    answered_once(rt, alloc, &survey, &mut whole, &end, gate)?;
     let next = survey.pass(alloc, &mut whole, desk)?;
     let bench = survey.worker_pass(&mut whole);
     let lent = &survey;
