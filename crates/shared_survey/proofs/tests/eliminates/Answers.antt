@@ -1,4 +1,4 @@
-use Rattle.std.proofs.Common.{[], ◌∷◌, ◌++◌, ◌≡◌, ap, ◌∙◌}
+use Rattle.std.proofs.Common.{[], ◌∷◌, ◌++◌, ap, ◌∙◌}
 use Rattle.eliminators.specs.Work.{Stays}
 use Rattle.shared_survey.specs.Benches.{bench_about, bench_seen}
 use Rattle.shared_survey.specs.Passes.{survey_listed}
