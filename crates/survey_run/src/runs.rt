@@ -195,10 +195,7 @@ fn finish_surveys<R: Threads>(
     ensures { (criteria : Criteria) (workers : ℕ) (surveys : List SurveySeen) (sessions : List ScriptSessionView)
         → EachZipFrom (RunningAt criteria workers sessions) 0 surveys running.items → StackFrom (SpokenAt criteria workers sessions) 0 surveys result.items }
 {
-    for _place in 0..running.len() {
-        let Some(one) = running.pop() else {
-            return spoken;
-        };
+    while let Some(one) = running.pop() {
         spoken.push_reserved(finish_survey(rt, one));
     }
     spoken

@@ -24,10 +24,7 @@ fn turned(mut passes: Vec<Pass>, mut back: Vec<Pass>) -> Vec<Pass>
     requires room { (back.items ≡ []) × (vec_len passes ≤ vec_capacity back) }
     ensures { (worker : ℕ) (surveys : List SurveySeen) → AllZip IsFreshPass surveys passes.items → IsStack worker surveys result }
 {
-    for _place in 0..passes.len() {
-        let Some(pass) = passes.pop() else {
-            return back;
-        };
+    while let Some(pass) = passes.pop() {
         back.push_reserved(pass);
     }
     back
@@ -58,17 +55,12 @@ fn hold_all<'s, R: Wait + Sync>(
 /// The passes of the benches, the first on top.
 fn give_back<'s, R: Wait + Sync>(
     mut benches: Benches<SurveyBench<'s, R>>,
-    count: usize,
     mut back: Vec<Pass>,
 ) -> Vec<Pass>
-    requires count { length benches.list.items ≡ count }
-    requires room { (back.items ≡ []) × (count ≤ vec_capacity back) }
+    requires room { (back.items ≡ []) × (length benches.list.items ≤ vec_capacity back) }
     ensures { (worker : ℕ) (surveys : List SurveySeen) → AllZip (HasWorkedAt worker) surveys benches.entry.list.items → IsStack worker surveys result }
 {
-    for _place in 0..count {
-        let Some(bench) = benches.pop() else {
-            return back;
-        };
+    while let Some(bench) = benches.pop() {
         back.push_reserved(bench.into_pass());
     }
     back
@@ -102,7 +94,7 @@ fn work<'s, R: Wait + Sync, G: Gate>(
     }
     let mut benches = hold_all(rt, surveys, passes, number, benches);
     worker(rt, &mut benches, number, model, &mut tools, &mut jobs, gate);
-    give_back(benches, surveys.len(), back)
+    give_back(benches, back)
 }
 
 /// Starts the thread of an eliminator with room for its benches, or leaves it out where no thread can be made.

@@ -27,13 +27,15 @@ pub worker-requires-clause-models : goal.worker-requires-clause-models
 worker-requires-clause-models g c =
     benches_models c.args.job.number c.args.model.now c.args.surveys.now.items c.hold_all-benches.result.list.items c.requires.models c.hold_all-benches.ensures
 
-pub give_back-requires-clause-count : goal.give_back-requires-clause-count
-give_back-requires-clause-count g c =
+pub give_back-requires-clause-room : goal.give_back-requires-clause-room
+give_back-requires-clause-room g c =
     let long = all_zip_length (HoldsFresh c.args.job.number) c.args.surveys.now.items c.hold_all-benches.result.list.items c.hold_all-benches.ensures in
     let same = length_all_zip (Stays bench_about (λ (about : BenchAbout). survey_listed about.survey) (λ (about : BenchAbout). about.worker) bench_seen)
     c.hold_all-benches.result.list.items c.worker.new.benches.list.items c.worker.ensures.each in
     let b : vec_len c.args.surveys.now ≡ length c.args.surveys.now.items = search rules in
-    omega (arith, long, same, b, c.len.ensures)
+    let short = all_zip_length IsFreshPass c.args.surveys.now.items c.args.job.passes.items c.requires.job.passes in
+    let a : vec_len c.args.job.passes ≡ length c.args.job.passes.items = search rules in
+    λ lives within. (c.requires.job.back.0, omega (arith, long, same, short, a, b, c.requires.job.back.1))
 
 pub returns : goal.returns
 returns g c =
