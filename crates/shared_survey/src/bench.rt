@@ -18,6 +18,7 @@ use eliminators::{Bench, HandIn, Job, hand_in_to, take_from};
 use std::collections::LinkedList;
 use std::snapshot::Snapshot as Past;
 use std::sync::Wait;
+use std::thread;
 
 /// What a bench stands for, for contracts. No value of it is made.
 pub struct BenchAbout {
@@ -130,6 +131,19 @@ impl<'a, R: Wait + Sync> Bench for SurveyBench<'a, R> {
     }
 }
 
+// How often an eliminator looks whether the state is free before it waits in line.
+const LOOKS: u32 = 256;
+
+// Lets others go first, for a while, since each seat that waits in line makes those after it wait as well.
+fn give_way(survey: &Survey) {
+    for _ in 0..LOOKS {
+        if !survey.turn.is_busy() {
+            return;
+        }
+        thread::yield_now();
+    }
+}
+
 // Takes a job in a turn of the pass.
 fn take_by<R: Wait + Sync>(
     rt: &R,
@@ -146,6 +160,7 @@ fn take_by<R: Wait + Sync>(
     ensures legal { IsListed (survey_listed survey.now) × IsLegal (survey_listed survey.now) (pass_seen pass.new).journal }
     ensures pass { StaysPass survey.now pass.old pass.new }
 {
+    give_way(survey);
     let mut state = pass.seat.enter(rt, &survey.turn);
     let job = take_from(&mut state, snapshot);
     pass.seat.leave(&survey.turn, state);
@@ -171,6 +186,7 @@ fn hand_in_by<R: Wait + Sync>(
     ensures legal { IsLegal (survey_listed survey.now) (pass_seen pass.new).journal }
     ensures pass { StaysPass survey.now pass.old pass.new }
 {
+    give_way(survey);
     let mut state = pass.seat.enter(rt, &survey.turn);
     let answer = hand_in_to(&mut state, worker, job, snapshot, decision);
     pass.seat.leave(&survey.turn, state);

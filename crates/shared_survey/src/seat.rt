@@ -12,22 +12,8 @@ ghost use Rattle.shared_survey.specs.LockSeats.{IsAtLock, journal_out, seat_seen
 use crate::shared_state::SharedState;
 use std::alloc::{AllocError as NoMemory, Global};
 use std::sync::Wait;
-use std::thread;
 use survey_state::State;
 use turn_lock::{MAX_SEATS, Turn, TurnSeat};
-
-// How often a seat looks whether the state is free before it waits in line.
-const LOOKS: u32 = 256;
-
-// Lets others go first, for a while: turns are given in the order of the line, so a thread in it that doesn't run makes all after it wait.
-fn give_way(turn: &Turn<SharedState>) {
-    for _ in 0..LOOKS {
-        if !turn.is_busy() {
-            return;
-        }
-        thread::yield_now();
-    }
-}
 
 /// A seat, and how many events it has seen.
 #[derive(Drop)]
@@ -97,7 +83,6 @@ impl SurveySeat {
         ensures listed { result.listed ≡ (opening turn.now).state.listed }
         ensures same { (self.new.knows.weight ≡ self.old.knows.weight) × (seat_seen self.new ≡ seat_seen self.old) }
     {
-        give_way(turn);
         let SharedState { state } = turn.enter(rt, &mut self.seat);
         state
     }
