@@ -60,9 +60,10 @@ pub record GivesTooLong (new : LinesView) (before now : Option (List ℕ)) : Typ
   pub unbroken : HasNoLineEnd (take (new.longest + 1) new.kept)
   pub same : now ≡ before
 
--- the source failed, and the text ahead is as it was
+-- the source failed before a whole line came: the bytes kept have no line end, and the text ahead is as it was
 pub record GivesFault (new : LinesView) (before now : Option (List ℕ)) : Type 0 where
   pub no_line : new.line ≡ []
+  pub unbroken : HasNoLineEnd new.kept
   pub same : now ≡ before
 
 -- what an answer says of the reader now, and of the text ahead before and now

@@ -189,6 +189,7 @@ impl Lines {
         requires { length self.old.kept ≤ self.old.longest }
         ensures grown { IfOk result (λ n. length self.new.kept ≡ length self.old.kept + n) }
         ensures front { take (length self.old.kept) self.new.kept ≡ self.old.kept }
+        ensures none_taken { OnErr result (length self.new.kept ≡ length self.old.kept) }
         ensures same { ahead self.new (S.left source.new) ≡ ahead self.old (S.left source.old) }
         ensures ended { IfOk result (λ n. n ≡ 0 → IsAtEnd (S.left source.new)) }
         ensures quiet { OnOk result (S.faults source.new ≡ S.faults source.old) }

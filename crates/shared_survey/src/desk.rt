@@ -16,7 +16,8 @@ use std::sync::Wait;
 use survey_core::Event;
 use survey_replies::{AnswerReply, Events, NextReply, Respondent, ValuesReply, WithdrawReply};
 
-/// A desk of a survey, while its pass is lent. It sends a job after each answer that is accepted, where it has an end of the line.
+/// A desk of a survey, while its pass is lent. Where it has an end of the job line, it hands that a job after each answer that is
+/// accepted.
 #[derive(Drop)]
 pub struct Desk<'a, R: Wait + Sync, G: Gate> {
     rt: &'a R,

@@ -5,7 +5,8 @@
 //! state back. A pass shows the journal that it has seen and which of its places are its own.
 //!
 //! The calls of a desk (`next`, `answer`, `values`, `withdraw`) are those of `survey_state` over an `Access` by the pass. A
-//! `Desk` is the same as a `Respondent`, and sends a job after each answer that is accepted; a `SurveyBench` is a `Bench`.
+//! `Desk` is the same as a `Respondent`, and hands the job line a job after each answer that is accepted; a `SurveyBench` is a
+//! `Bench`.
 //! Each may wait for a turn; nothing is solved in one.
 //!
 //! Inside: a pass has a `SurveySeat`, a seat at the lock that has seen a legal journal; `PassAccess` lends a pass to a call.

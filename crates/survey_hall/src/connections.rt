@@ -20,8 +20,8 @@ use std::sync::Wait;
 
 /// Serves a connection: reads its hello, waits for the desk, welcomes and runs the session. The desk is free again afterwards.
 ///
-/// If eliminators of a `serve` on this hall are at work when the desk is got, the session sends a job after each answer that is
-/// accepted. Where that `serve` ends first, a job of the survey stays on the hall's line until an eliminator of another takes it.
+/// If eliminators of a `serve` on this hall are at work when the desk is got, the session hands the hall's job line a job after each
+/// answer that is accepted. Where that `serve` ends first, a job of the survey stays on the line until an eliminator of another takes it.
 pub fn serve_connection<R: Wait + Sync, S: Source, K: Sink, G: Gate>(
     rt: &R,
     alloc: Global,

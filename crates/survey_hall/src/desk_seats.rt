@@ -78,7 +78,8 @@ impl DeskSeat {
         self.number == respondent && self.pass.desk() == desk && self.model == *model
     }
 
-    /// Welcomes a connection, and runs its session. With `sends_jobs` the desk sends a job after each answer that is accepted.
+    /// Welcomes a connection, and runs its session. With `sends_jobs` the desk hands the job line a job after each answer
+    /// that is accepted.
     pub(crate) fn serve<R: Wait + Sync, S: Source, K: Sink, G: Gate>(
         &mut self,
         rt: &R,
