@@ -1,6 +1,6 @@
 -- What the first line of a connection comes to.
 use Rattle.std.specs.Prelude.{◌≡◌, ℕ, List, [], ◌∷◌, ◌++◌, Option, Result, Ok, Err}
-use Rattle.edges.specs.Line.{line_end}
+use Rattle.edges.specs.Line.{HasNoLineEnd, line_end}
 use Rattle.edges.specs.Told.{IsAtEnd, Takes}
 use Rattle.json_forms.specs.declared.replies.Word.{Word}
 use Rattle.json_forms.specs.DefinitionViews.{DefinitionView}
@@ -19,12 +19,12 @@ pub record GreetsWith (definition : DefinitionView) (before after : Option (List
   pub read : Takes before after (line ++ line_end ∷ [])
   pub tested : admission_by_line definition line ≡ outcome
 
--- no whole line came: input ended within it, or it is too long, or the source failed; or there was no memory for it. `kept` are the
--- bytes that were taken from the source and not read, `before` and `after` the text that lay ahead and lies ahead
+-- no whole line came: input ended within it, or it is too long, or the source failed before its end; or there was no memory for it.
+-- `kept` are the bytes that were taken from the source and not read, `before` and `after` the text that lay ahead and lies ahead
 abbrev pub EndsGreeting : SessionEnd → List ℕ → Option (List ℕ) → Option (List ℕ) → Type 0
 EndsGreeting EndOfInput kept before after = IsAtEnd after × ((piece : List ℕ) × IsLine piece × Takes before after piece)
 EndsGreeting LineTooLong kept before after = IsOverlong kept × (after ≡ before)
-EndsGreeting ReadFault kept before after = after ≡ before
+EndsGreeting ReadFault kept before after = HasNoLineEnd kept × (after ≡ before)
 EndsGreeting NoMemory kept before after = (line : List ℕ) × IsLine line × Takes before after (line ++ line_end ∷ [])
 EndsGreeting _ kept before after = ⊥
 

@@ -109,7 +109,8 @@ impl<I: Source + Drop, O: Sink + Drop> Connection<I, O> {
         ensures { (definition : DefinitionView) (source : I) (sink : O) → ServesFor I.left I.faults O.written O.faults definition source sink self.old
             → ServesFor I.left I.faults O.written O.faults definition source sink self.new }
     {
-        let was = mem::replace(self, Connection::Done(Served::Early(SessionEnd::NoMemory)));
+        // No connection ends so: what is put in its place meanwhile can't pass for what it was served.
+        let was = mem::replace(self, Connection::Done(Served::Early(SessionEnd::Bye)));
         *self = Connection::Done(was.finish(rt));
     }
 }

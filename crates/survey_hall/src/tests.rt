@@ -183,6 +183,28 @@ fn sink_fails_third(rt: HostRuntime) -> Result<(), Fail> {
     Ok(())
 }
 
+/// The source fails after a whole hello: what came before has its replies, and they are out.
+#[test]
+fn source_fails_after_hello(rt: HostRuntime) -> Result<(), Fail> {
+    let table: [([&[u8]; 3], u32, u32, &[&[u8]]); 2] = [
+        ([HELLO, b"", b""], 0, 0, &[WELCOME]),
+        ([HELLO, NEXT, ANSWER], 2, 2, &[WELCOME, QUESTION, ACCEPTED]),
+    ];
+    for (said, length, replies, replied) in table {
+        let hall = hall_of(rt.alloc())?;
+        let (told, sink) = served(&rt, rt.alloc(), &hall, &said, (2, 0))?;
+        let want = Told::Ran {
+            began: 0,
+            length,
+            replies,
+            end: SessionEnd::ReadFault,
+        };
+        assert!(rt; told == want, "{told:?}, not {want:?}");
+        assert!(rt; are(sink.bytes(), replied));
+    }
+    Ok(())
+}
+
 /// First lines that fail a test, each at the first one that it fails.
 #[test]
 fn refused_hello(rt: HostRuntime) -> Result<(), Fail> {

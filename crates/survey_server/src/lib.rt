@@ -5,7 +5,7 @@
 //! does, which waits for nobody: it checks a file of claims or the result of a survey, copies a result into the second format, ranks
 //! the alternatives of a table, or runs a sample survey. What is written, and with which status a command ends, is fixed by the words
 //! and the source's bytes, but for the replies of a run, each of which is right in the one journal of its respondent's survey; a
-//! command fails only where a count of faults rose.
+//! command fails only where a count of faults rose. The calls of `survey_run` and `survey_hall` that it stands on are given on.
 //!
 //! Inside: `rank_input` reads a definition line, a values line and a table and ranks it, by the names that `survey_names` gives;
 //! `rank_texts` has the texts that answer it, and `sample_texts` the line of a sample survey. `script_runs` runs a script, and
@@ -26,6 +26,8 @@ mod survey_names;
 pub use commands::{Ended, command};
 pub use plain_commands::plain_command;
 pub use script_runs::{Stop, run_script};
+pub use survey_hall::{Hall, ServeEnd, ServeStop, Served, serve, serve_connection};
+pub use survey_run::{RunEnd, run_sample};
 
 #[cfg(test)]
 mod tests;
