@@ -3,3 +3,4 @@ pub mod SplitLemmas
 pub mod HelloLemmas
 pub mod StepLemmas
 pub mod WithinLemmas
+pub mod FaultLemmas

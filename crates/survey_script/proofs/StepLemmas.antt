@@ -1,22 +1,23 @@
 -- A line, and what a script is by it and by the lines after it.
-use Rattle.std.proofs.Common.{◌≡◌, ◌≢◌, ◌⊎◌, inl, inr, ℕ, ◌+◌, ◌≤◌, ◌<◌, true, false, Bool, List, [], ◌∷◌, length, refl, sym, ap, subst, ◌∙◌, arith, if◌then◌else◌}
+use Rattle.std.proofs.Common.{◌≡◌, ℕ, ◌+◌, ◌<◌, true, List, [], ◌∷◌, ◌++◌, length, refl, sym, ap, subst, ◌∙◌, arith, append_assoc, length-append}
 use Rattle.std.proofs.lemmas.Bool.Decides.{nat_tests}
-use Rattle.std.specs.Prelude.{nat_lt, Option, Some, None, IfSome, IfOk, IfErr, IsOk, MatchResult, Result, Ok, Err}
+use Rattle.std.proofs.lemmas.List.Elements.{All-append, All-cons, All-nil}
+use Rattle.std.specs.Prelude.{nat_lt, Option, Some, None, IfSome, IfOk, IfErr, MatchResult, Result, Ok, Err}
 use Rattle.json_forms.specs.declared.definition_faults.DefinitionFault.TheVariants as fault
 use Rattle.json_forms.specs.declared.definition_faults.TheConstants.{MAX_DEFINITION}
 use Rattle.json_forms.specs.DefinitionViews.{DefinitionView}
-use Rattle.json_forms.specs.Definitions.{definition_of}
-use Rattle.edges.specs.Faults.{CountsFaults, HasRisen}
+use Rattle.edges.specs.Line.{HasNoLineEnd, unlines}
 use Rattle.edges.specs.Told.{IsAtEnd}
+use Rattle.edges.proofs.LineLaws.{unlines-push}
 use Rattle.result_file.specs.declared.limits.TheConstants.{MAX_LINE}
 use Rattle.survey_script.specs.declared.stops.ScriptPart.{ScriptPart}
-use Rattle.survey_script.specs.declared.stops.ScriptPart.TheVariants.{Long, Bye}
+use Rattle.survey_script.specs.declared.stops.ScriptPart.TheVariants.{Long}
 use Rattle.survey_script.specs.declared.stops.ScriptStop.{ScriptStop}
 use Rattle.survey_script.specs.declared.stops.ScriptStop.TheVariants.{Definition, Script, ReadFault, NoMemory}
-use Rattle.survey_script.specs.ScriptViews.{ScriptSessionView, ScriptView, script_view}
-use Rattle.survey_script.specs.Scripts.{IsScript, IsStopOf, SessionsView, after_line, defined, ended_at, first_definition, go_on, lines_in, no_sessions, script_by, script_in, script_of, script_with, sessions_after}
-use Rattle.survey_script.specs.Steps.{EndsWith, GoesOnBy, GoesTo, IsStopAt, LeavesRest}
-use Rattle.survey_script.proofs.TextLemmas.{IsFirstLong}
+use Rattle.survey_script.specs.ScriptViews.{ScriptSessionView, script_view}
+use Rattle.survey_script.specs.Scripts.{IsStopOf, SessionsView, after_line, first_definition, go_on, lines_in, no_sessions, script_by, script_in, script_of, script_with, sessions_after}
+use Rattle.survey_script.specs.Steps.{AreOfLines, GoesOnBy, GoesTo, HasLine, IsStopAt, LeavesRest}
+use Rattle.survey_script.proofs.TextLemmas.{IsFirstLong, lines_in-lines}
 
 -- the stop of an equal outcome
 stop_along : {X : Type 0} (one other : Result X ScriptStop) (stop : ScriptStop) → one ≡ other → IsStopOf other stop → IsStopOf one stop
@@ -25,15 +26,10 @@ stop_along {X} one other stop same is = subst (λ (r : Result X ScriptStop). IsS
 -- ---- lines after the definition
 
 -- the line at the front of a text, and the sessions after it
-pub goes_on_by : (definition : DefinitionView) (number : ℕ) (old new : SessionsView) (line : List ℕ) (before now : Option (List ℕ))
-    → LeavesRest before now (λ text rest. lines_in text ≡ line ∷ lines_in rest) → after_line definition number old line ≡ Ok new
-    → GoesOnBy definition number old new before now
-goes_on_by definition number old new line None now given is = tt
-goes_on_by definition number old new line (Some text) now given is =
-    let step : go_on number (after_line definition number old line) (λ next. sessions_after definition (number + 1) next (lines_in given.0))
-    ≡ sessions_after definition (number + 1) new (lines_in given.0) =
-    ap (λ (r : Result SessionsView ScriptPart). go_on number r (λ next. sessions_after definition (number + 1) next (lines_in given.0))) is in
-    (given.0, given.1, ap (sessions_after definition number old) given.2 ∙ step)
+goes_on_by : (definition : DefinitionView) (number : ℕ) (old new : SessionsView) (line : List ℕ) → after_line definition number old line ≡ Ok new
+    → (more : List (List ℕ)) → sessions_after definition number old (line ∷ more) ≡ sessions_after definition (number + 1) new more
+goes_on_by definition number old new line is more =
+    ap (λ (r : Result SessionsView ScriptPart). go_on number r (λ next. sessions_after definition (number + 1) next more)) is
 
 -- a stop is the same whatever follows
 stop_after : {X : Type 0} (number : ℕ) (read : Result SessionsView ScriptPart) (next : SessionsView → Result X ScriptStop) (stop : ScriptStop)
@@ -96,6 +92,47 @@ module _ (definition : DefinitionView) (number : ℕ) (old : SessionsView) (line
       stop_along (sessions_after definition number old (lines_in text)) _ stop (ap (sessions_after definition number old) (given.2 ∙ ap (λ (xs : List ℕ). line ∷ lines_in xs) none)) is
 
 -- ---- from line to line
+
+module _ (definition : DefinitionView) where
+  -- what the whole text comes to is what its rest comes to
+  module _ (number : ℕ) (old : SessionsView) (text rest : List ℕ) (of : AreOfLines definition number old text rest) where
+    along : sessions_after definition 2 no_sessions (lines_in text) ≡ sessions_after definition number old (lines_in rest)
+    along = ap (λ (xs : List ℕ). sessions_after definition 2 no_sessions (lines_in xs)) of.whole
+        ∙ ap (sessions_after definition 2 no_sessions) (lines_in-lines of.lines rest of.each) ∙ of.same (lines_in rest)
+
+    one_more : (new : SessionsView) (after : List ℕ) → HasLine (λ line. after_line definition number old line ≡ Ok new) rest after
+        → AreOfLines definition (number + 1) new text after
+    one_more new after has = record {
+      lines = of.lines ++ has.line ∷ [];
+      each = All-append HasNoLineEnd of.lines (has.line ∷ []) of.each (All-cons HasNoLineEnd has.line [] has.unbroken (All-nil HasNoLineEnd));
+      whole = of.whole ∙ ap (λ (xs : List ℕ). unlines of.lines ++ xs) has.whole ∙ sym (unlines-push of.lines has.line after);
+      count = omega (arith, of.count, length-append of.lines (has.line ∷ []));
+      same = λ more. ap (sessions_after definition 2 no_sessions) (append_assoc of.lines (has.line ∷ []) more) ∙ of.same (has.line ∷ more)
+          ∙ goes_on_by definition number old new has.line has.holds more;
+    }
+
+  module _ (number : ℕ) (old : SessionsView) where
+    pub goes_to_next : (new : SessionsView) (before middle now : Option (List ℕ)) → GoesTo definition number old before middle
+        → GoesOnBy definition number old new middle now → GoesTo definition (number + 1) new before now
+    goes_to_next new None middle now goes step = tt
+    goes_to_next new (Some text) middle now goes step =
+        let here = subst (λ (m : Option (List ℕ)). GoesOnBy definition number old new m now) goes.1 step in
+        (here.0, here.1, one_more number old text goes.0 goes.2 new here.0 here.2)
+
+    pub goes_to_end : (ended : List ScriptSessionView) (before middle : Option (List ℕ)) → GoesTo definition number old before middle
+        → IfSome middle (λ text. sessions_after definition number old (lines_in text) ≡ Ok ended)
+        → IfSome before (λ text. sessions_after definition 2 no_sessions (lines_in text) ≡ Ok ended)
+    goes_to_end ended None middle goes ends = tt
+    goes_to_end ended (Some text) middle goes ends =
+        along number old text goes.0 goes.2 ∙ subst (λ (m : Option (List ℕ)). IfSome m (λ text. sessions_after definition number old (lines_in text) ≡ Ok ended)) goes.1 ends
+
+    pub goes_to_stop : (stop : ScriptStop) (before middle : Option (List ℕ)) → GoesTo definition number old before middle
+        → IfSome middle (λ text. IsStopOf (sessions_after definition number old (lines_in text)) stop)
+        → IfSome before (λ text. IsStopOf (sessions_after definition 2 no_sessions (lines_in text)) stop)
+    goes_to_stop stop None middle goes stops = tt
+    goes_to_stop stop (Some text) middle goes stops =
+        stop_along (sessions_after definition 2 no_sessions (lines_in text)) _ stop (along number old text goes.0 goes.2)
+        (subst (λ (m : Option (List ℕ)). IfSome m (λ text. IsStopOf (sessions_after definition number old (lines_in text)) stop)) goes.1 stops)
 
 -- ---- the definition line
 

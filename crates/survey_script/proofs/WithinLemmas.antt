@@ -1,5 +1,5 @@
 -- The limits that sessions keep from line to line.
-use Rattle.std.proofs.Common.{◌≡◌, ℕ, ◌+◌, ◌≤◌, ◌<◌, Bool, true, false, List, [], ◌∷◌, ◌++◌, length, refl, sym, ap, subst, ◌∙◌, arith, if◌then◌else◌, length-append, append_assoc}
+use Rattle.std.proofs.Common.{◌≡◌, ℕ, ◌+◌, ◌≤◌, ◌<◌, Bool, true, false, List, [], ◌∷◌, ◌++◌, length, refl, ap, subst, ◌∙◌, arith, if◌then◌else◌, length-append}
 use Rattle.std.specs.Prelude.{nat_le, nat_lt, All, Option, Some, None, OnOk, Result, Ok, Err}
 use Rattle.std.proofs.lemmas.Bool.Decides.{nat_tests}
 use Rattle.std.proofs.lemmas.List.{append-nil}
@@ -15,7 +15,7 @@ use Rattle.survey_script.specs.declared.limits.TheConstants.{MAX_SESSIONS, MAX_S
 use Rattle.survey_script.specs.declared.stops.ScriptPart.{ScriptPart}
 use Rattle.survey_script.specs.Hellos.{admission_of}
 use Rattle.survey_script.specs.ScriptViews.{IsBetween, IsUpToBye, IsWholeScript, IsWholeSession, ScriptSessionView, begun_session, is_bye, is_hello, line_count, script_view, with_message}
-use Rattle.survey_script.specs.Scripts.{SessionsView, after_hello, after_line, after_message, after_request, begun_by, no_sessions, sessions_view}
+use Rattle.survey_script.specs.Scripts.{SessionsView, after_hello, after_line, after_message, begun_by, sessions_view}
 use Rattle.survey_script.specs.Steps.{AreWithin, IsBegunSession, all_sessions, running_list}
 use Rattle.survey_script.proofs.HelloLemmas.{is_admitted}
 

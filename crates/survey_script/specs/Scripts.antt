@@ -1,6 +1,6 @@
 -- Which script a text is, or the first line of it that fails.
-use Rattle.std.specs.Prelude.{◌≡◌, ℕ, ◌+◌, ◌==◌, nat_le, nat_lt, List, [], ◌∷◌, ◌++◌, length, if◌then◌else◌, Option, Some, None, Result, Ok, Err}
-use Rattle.edges.specs.Line.{line_end}
+use Rattle.std.specs.Prelude.{◌≡◌, ℕ, ◌+◌, ◌<◌, ◌==◌, nat_le, nat_lt, List, [], ◌∷◌, ◌++◌, length, All, if◌then◌else◌, Option, Some, None, IfSome, Result, Ok, Err}
+use Rattle.edges.specs.Line.{HasNoLineEnd, line_end, unlines}
 use Rattle.json_forms.specs.declared.definition_faults.TheConstants.{MAX_DEFINITION}
 use Rattle.json_forms.specs.declared.definition_faults.DefinitionFault.{DefinitionFault}
 use Rattle.json_forms.specs.declared.definition_faults.DefinitionFault.TheVariants as fault
@@ -8,7 +8,6 @@ use Rattle.json_forms.specs.declared.messages.Message.{Message}
 use Rattle.json_forms.specs.declared.messages.Message.TheVariants as message
 use Rattle.json_forms.specs.DefinitionViews.{DefinitionView}
 use Rattle.json_forms.specs.Definitions.{definition_of}
-use Rattle.json_forms.specs.HelloView.{HelloView}
 use Rattle.json_forms.specs.Messages.{message_of}
 use Rattle.result_file.specs.declared.limits.TheConstants.{MAX_LINE}
 use Rattle.survey_script.specs.declared.hellos.Admitted.{Admitted}
@@ -139,3 +138,23 @@ IsStopOf outcome (Definition fault) = outcome ≡ Err (Definition fault)
 IsStopOf outcome (Script line part) = outcome ≡ Err (Script line part)
 IsStopOf outcome ReadFault = Unit {0}
 IsStopOf outcome NoMemory = Unit {0}
+
+-- ---- where the source fails
+
+-- a text that begins with these lines fails, if at all, at a later line
+pub record NoneFails (lines : List (List ℕ)) : Type 0 where
+  pub definition : (rest : List ℕ) (fault : DefinitionFault) → script_of (unlines lines ++ rest) ≡ Err (Definition fault) → lines ≡ []
+  pub later : (rest : List ℕ) (number : ℕ) (part : ScriptPart) → script_of (unlines lines ++ rest) ≡ Err (Script number part) → length lines < number
+
+-- the source failed after so much of a text was taken: whole lines of which none fails, and then no whole line
+pub record IsCutAt (text left : List ℕ) : Type 0 where
+  pub lines : List (List ℕ)
+  pub each : All HasNoLineEnd lines
+  pub piece : List ℕ
+  pub unbroken : HasNoLineEnd piece
+  pub taken : text ≡ unlines lines ++ piece ++ left
+  pub none_fails : NoneFails lines
+
+-- where the source failed, it did so before a line that fails had come whole
+abbrev pub FailsFirst : Option (List ℕ) → Option (List ℕ) → Type 0
+FailsFirst told left = IfSome told (λ text. (rest : List ℕ) × (left ≡ Some rest) × IsCutAt text rest)

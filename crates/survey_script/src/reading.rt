@@ -4,8 +4,8 @@ ghost use Rattle.edges.specs.Faults.{CountsFaults, HasRisen};
 ghost use Rattle.edges.specs.Lines.{ahead};
 ghost use Rattle.edges.specs.Told.{IsAtEnd};
 ghost use Rattle.survey_script.specs.ScriptViews.{IsWholeScript, script_view};
-ghost use Rattle.survey_script.specs.Scripts.{IsScript, IsStopOf, first_definition, lines_in, no_sessions, script_by, script_of, sessions_after};
-ghost use Rattle.survey_script.specs.Steps.{AreWithin, EndsWith, GoesOnBy, LeavesRest};
+ghost use Rattle.survey_script.specs.Scripts.{FailsFirst, IsScript, IsStopOf, first_definition, lines_in, no_sessions, script_by, script_of, sessions_after};
+ghost use Rattle.survey_script.specs.Steps.{AreWithin, EndsWith, GoesOnBy, HasPiece, IsCutUnder, IsDefinedBy, LeavesRest};
 
 use crate::limits::MAX_SCRIPT_LINES;
 use crate::scripts::{Script, ScriptSession};
@@ -31,6 +31,9 @@ pub fn read_script<S: Source>(alloc: Global, source: &mut S) -> Result<Script, S
     // A script is read where no fault came, or there was no memory.
     ensures done { IsScript (S.left source.old) → (¬ HasRisen (S.faults source.old) (S.faults source.new))
         → IsOk result ⊎ (result ≡ Err ScriptStop.NoMemory) }
+
+    // A line that fails is reported before a fault of the source after it.
+    ensures first { result ≡ Err ScriptStop.ReadFault → FailsFirst (S.left source.old) (S.left source.new) }
 {
     let mut lines = Lines::reserve(alloc, MAX_DEFINITION)?;
     read_lines(alloc, &mut lines, source)
@@ -49,6 +52,7 @@ fn read_lines<S: Source>(
     ensures whole { IfOk result IsWholeScript }
     ensures ended { OnOk result (IsAtEnd (S.left source.new)) }
     ensures faults { CountsFaults (result ≡ Err ScriptStop.ReadFault) (S.faults source.old) (S.faults source.new) }
+    ensures first { result ≡ Err ScriptStop.ReadFault → FailsFirst (ahead lines.old (S.left source.old)) (S.left source.new) }
 {
     match read_first(alloc, lines, source) {
         Ok(definition) => {
@@ -72,6 +76,7 @@ fn read_under<S: Source>(
     ensures whole { IfOk result IsWholeScript }
     ensures ended { OnOk result (IsAtEnd (S.left source.new)) }
     ensures faults { CountsFaults (result ≡ Err ScriptStop.ReadFault) (S.faults source.old) (S.faults source.new) }
+    ensures first { result ≡ Err ScriptStop.ReadFault → LeavesRest (ahead lines.old (S.left source.old)) (S.left source.new) (IsCutUnder definition) }
 {
     match read_sessions(alloc, &definition, lines, source) {
         Ok(sessions) => Ok(Script::of(definition, sessions)),
@@ -88,8 +93,10 @@ fn read_first<S: Source>(
     requires longest { lines.old.longest ≡ MAX_DEFINITION }
     ensures read { IfOk result (λ definition. LeavesRest (ahead lines.old (S.left source.old)) (ahead lines.new (S.left source.new))
         (λ text rest. script_of text ≡ script_by (Ok definition) (lines_in rest))) }
+    ensures line { IfOk result (λ definition. LeavesRest (ahead lines.old (S.left source.old)) (ahead lines.new (S.left source.new)) (IsDefinedBy definition)) }
     ensures refused { IfErr result (λ stop. IfSome (ahead lines.old (S.left source.old)) (λ text. IsStopOf (script_of text) stop)) }
     ensures faults { CountsFaults (result ≡ Err ScriptStop.ReadFault) (S.faults source.old) (S.faults source.new) }
+    ensures first { IfErr result (λ stop. stop ≡ ScriptStop.ReadFault → LeavesRest (ahead lines.old (S.left source.old)) (S.left source.new) HasPiece) }
     ensures limits { lines.new.reserved ≡ lines.old.reserved }
 {
     match lines.next_line(source) {
@@ -143,6 +150,7 @@ fn read_next<S: Source>(
         IsStopOf (sessions_after definition.now number sessions.old (lines_in text)) stop)) }
     ensures quiet { OnOk result (S.faults source.new ≡ S.faults source.old) }
     ensures faults { IfErr result (λ stop. CountsFaults (stop ≡ ScriptStop.ReadFault) (S.faults source.old) (S.faults source.new)) }
+    ensures first { IfErr result (λ stop. stop ≡ ScriptStop.ReadFault → LeavesRest (ahead lines.old (S.left source.old)) (S.left source.new) HasPiece) }
     ensures longest { lines.new.longest ≡ lines.old.longest }
 {
     match lines.next_line(source) {
@@ -181,6 +189,7 @@ fn read_sessions<S: Source>(
     ensures whole { IfOk result (λ sessions. IsWholeScript (script_view definition.now sessions.items)) }
     ensures ended { OnOk result (IsAtEnd (S.left source.new)) }
     ensures faults { CountsFaults (result ≡ Err ScriptStop.ReadFault) (S.faults source.old) (S.faults source.new) }
+    ensures first { IfErr result (λ stop. stop ≡ ScriptStop.ReadFault → LeavesRest (ahead lines.old (S.left source.old)) (S.left source.new) (IsCutUnder definition.now)) }
 {
     let mut sessions = SessionsSoFar::new(alloc);
     let mut number = 2;

@@ -6,7 +6,7 @@ use Rattle.survey_run.specs.RunViews.{RunView}
 use Rattle.survey_run.specs.Runs.{IsRunBy, count_of}
 use Rattle.survey_run.specs.Sessions.{SessionRun}
 use Rattle.survey_script.specs.ScriptViews.{IsWholeScript, ScriptView}
-use Rattle.survey_script.specs.Scripts.{script_of}
+use Rattle.survey_script.specs.Scripts.{FailsFirst, script_of}
 use Rattle.survey_script.specs.declared.stops.ScriptStop.{ScriptStop}
 use Rattle.survey_script.specs.declared.stops.ScriptStop.TheVariants as script
 use Rattle.survey_server.specs.declared.script_runs.Stop.{Stop}
@@ -39,13 +39,14 @@ pub record RunsScript (Puts : Option (List ℕ) → Option (List ℕ) → List �
 abbrev pub IsNoScript : ScriptStop → Option (List ℕ) → Option (List ℕ) → Option (List ℕ) → Type 0
 IsNoScript stop told before now = IfSome told (λ text. script_of text ≡ Err stop) × (now ≡ before)
 
--- what came of the script: it was run and all replies were written, or the sink failed at them; it is none; or nothing was written
+-- what came of the script: it was run and all replies were written, or the sink failed at them; or nothing was written: it is none, the source failed
+-- before a line that fails had come whole, or there was no memory
 abbrev pub IsScriptOutcome : ℕ → Option (List ℕ) → Option (List ℕ) → Option (List ℕ) → Option (List ℕ) → Result RunView Stop → Type 0
 IsScriptOutcome workers told left before now (Ok end) = RunsScript Appends workers end told left before now
 IsScriptOutcome workers told left before now (Err (WriteFault end)) = RunsScript AppendsPrefix workers end told left before now
 IsScriptOutcome workers told left before now (Err (Definition fault)) = IsNoScript (script.Definition fault) told before now
 IsScriptOutcome workers told left before now (Err (Script line part)) = IsNoScript (script.Script line part) told before now
-IsScriptOutcome workers told left before now (Err ReadFault) = now ≡ before
+IsScriptOutcome workers told left before now (Err ReadFault) = FailsFirst told left × (now ≡ before)
 IsScriptOutcome workers told left before now (Err NoMemory) = now ≡ before
 IsScriptOutcome workers told left before now (Err DoorFault) = ⊥
 

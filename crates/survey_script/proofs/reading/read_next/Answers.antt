@@ -1,6 +1,8 @@
-use Rattle.std.proofs.Common.{◌∙◌}
-use Rattle.survey_script.proofs.TextLemmas.{end_given, line_given, piece_given, too_long_given}
-use Rattle.survey_script.proofs.StepLemmas.{ends_last, goes_on_by, stops_by, stops_last, stops_long}
+use Rattle.std.proofs.Common.{◌≡◌, ◌∙◌}
+use Rattle.std.specs.Prelude.{Ok}
+use Rattle.survey_script.specs.Scripts.{after_line}
+use Rattle.survey_script.proofs.TextLemmas.{fault_given, line_given, line_told, piece_given, too_long_given}
+use Rattle.survey_script.proofs.StepLemmas.{ends_last, stops_by, stops_last, stops_long}
 use Rattle.survey_script.proofs.WithinLemmas.{line_within}
 use Rattle.survey_script.proofs.reading.read_next.Goals as goal
 
@@ -10,8 +12,8 @@ returns-in-TooLong-clause-failed g c =
 
 pub returns-in-Ok-clause-more : goal.returns-in-Ok-clause-more
 returns-in-Ok-clause-more g c = λ _.
-    goes_on_by c.args.definition.now c.args.number c.args.sessions.now c.add_line.new.self c.next_line.new.self.line _ _
-    (line_given c.next_line.new.self _ _ c.in-Line.ensures.got) (rw c.line.ensures at c.in-Ok.ensures.added)
+    line_told (λ line. after_line c.args.definition.now c.args.number c.args.sessions.now line ≡ Ok c.add_line.new.self) c.next_line.new.self _ _
+    c.in-Line.ensures.got (rw c.line.ensures at c.in-Ok.ensures.added)
 
 pub returns-in-Ok-clause-within : goal.returns-in-Ok-clause-within
 returns-in-Ok-clause-within g c = λ _ within.
@@ -31,3 +33,6 @@ pub returns-in-Err-add_last-clause-failed : goal.returns-in-Err-add_last-clause-
 returns-in-Err-add_last-clause-failed g c =
     stops_last c.args.definition.now c.args.number c.args.sessions.now c.next_line.new.self.line c.in-Err-add_last.stop _ _
     (piece_given c.next_line.new.self _ _ c.in-Piece.ensures.got) c.in-Piece.ensures.got.ended (rw c.line-in-Piece.ensures at c.in-Err-add_last.ensures.failed)
+
+pub returns-in-ReadFault-clause-first : goal.returns-in-ReadFault-clause-first
+returns-in-ReadFault-clause-first g c = λ _. fault_given c.next_line.new.self _ _ c.in-ReadFault.ensures.got

@@ -1,15 +1,14 @@
 use Rattle.std.proofs.Common.{◌≡◌, ◌-◌, length}
 use Rattle.edges.specs.Lines.{ahead}
-use Rattle.survey_script.specs.Scripts.{no_sessions}
 use Rattle.survey_script.specs.Steps.{AreWithin, GoesTo}
 use Rattle.survey_script.proofs.reading.read_sessions.Given as goal
 
--- The lines so far are within the limits, and what they and the rest come to is what the whole comes to.
+-- The sessions so far are those of the lines that were taken, and within the limits.
 abbrev pub invariant-loop-sessions : goal.invariant-loop-sessions
 invariant-loop-sessions g l = record {
   longest : l.lines.longest ≡ 4096;
   within : AreWithin (length l.definition.respondents) l.number l.sessions;
-  goes : GoesTo l.definition 2 no_sessions l.number l.sessions (ahead l.fn.lines (g.S.Source.left l.fn.source)) (ahead l.lines (g.S.Source.left l.source));
+  goes : GoesTo l.definition l.number l.sessions (ahead l.fn.lines (g.S.Source.left l.fn.source)) (ahead l.lines (g.S.Source.left l.source));
   quiet : g.S.Source.faults l.source ≡ g.S.Source.faults l.fn.source;
 }
 

@@ -1,6 +1,9 @@
-use Rattle.survey_server.proofs.ScriptRunLemmas.{runs_cut, runs_whole}
+use Rattle.survey_server.proofs.ScriptRunLemmas.{runs_cut, runs_none, runs_whole}
 use Rattle.survey_server.proofs.ScriptTextLemmas.{run_has_replies}
 use Rattle.survey_server.proofs.script_runs.run_script.Goals as goal
+
+pub returns-in-Err-clause-outcome : goal.returns-in-Err-clause-outcome
+returns-in-Err-clause-outcome g c = rw c.stop_of.ensures (runs_none c.args.workers _ _ _ c.in-Err.stop c.in-Err.ensures.read c.in-Err.ensures.first)
 
 pub write_replies-requires-clause-able : goal.write_replies-requires-clause-able
 write_replies-requires-clause-able g c =
