@@ -1,3 +1,4 @@
+mod gates;
 mod loading;
 mod ranks;
 mod results;
@@ -8,9 +9,18 @@ mod serving;
 
 use crate::plain_command;
 use edges::{MemSink, MemSource, QuietSink, QuietSource};
-use std::alloc::Global;
+use std::alloc::{AllocError, Global};
 use std::process::Abort;
 use std::test::Fail;
+
+/// Three criteria of two levels, and two respondents.
+const THREE: &[u8] = b"{\"criteria\":[{\"levels\":[\"high\",\"low\"],\"name\":\"price\"},\
+    {\"levels\":[\"slow\",\"fast\"],\"name\":\"speed\"},{\"levels\":[\"loud\",\"quiet\"],\"name\":\"noise\"}],\
+    \"degree\":3,\"respondents\":[{\"code\":\"k1\",\"name\":\"ana\"},{\"code\":\"k2\",\"name\":\"ben\"}]}\n";
+
+/// A criterion of three levels and one of two.
+const CARE: &[u8] = b"{\"criteria\":[{\"levels\":[\"poor\",\"fair\",\"good\"],\"name\":\"care\"},\
+    {\"levels\":[\"far\",\"near\"],\"name\":\"place\"}],\"degree\":2,\"respondents\":[{\"code\":\"k1\",\"name\":\"ana\"}]}\n";
 
 /// The line that words of no command get.
 const USAGE: &[u8] =
@@ -169,6 +179,15 @@ const ELIMINATIONS: [(&[u8], &[u8]); 30] = [
 const ANSWERS: &[u8] =
     b"paprika claims 1\nmodel 2,2,2 degree 3\nanswer 2,1,0/1,2,0 left\nanswer 0,2,1/0,1,2 left\n";
 
+/// The words of a line.
+fn words_of(alloc: Global, line: &str) -> Result<Vec<String>, AllocError> {
+    let mut words = Vec::new(alloc);
+    for word in line.split(' ') {
+        words.push(String::from_str(alloc, word)?)?;
+    }
+    Ok(words)
+}
+
 /// Checks a text that comes in pieces, and compares the status and what is written.
 fn expect_check(
     rt: &impl Abort,
@@ -283,21 +302,22 @@ fn claim_131073_is_over_the_limit(rt: HostRuntime) -> Result<(), Fail> {
 
 #[test]
 fn ends_fail_at_once(rt: HostRuntime) -> Result<(), Fail> {
-    let words = [format!(in rt.alloc(); "check")?];
-    let mut source = MemSource::new(rt.alloc(), b"", 1, &[1])?;
-    let mut sink = MemSink::new(rt.alloc(), 64, &[])?;
-    assert_eq!(rt;
-        plain_command(rt.alloc(), &words, &mut source, &mut sink),
-        3
-    );
-    assert!(rt; sink.bytes().is_empty());
-
-    let mut source = MemSource::new(rt.alloc(), b"", 1, &[])?;
-    let mut sink = MemSink::new(rt.alloc(), 64, &[1])?;
-    assert_eq!(rt;
-        plain_command(rt.alloc(), &words, &mut source, &mut sink),
-        4
-    );
+    let words = words_of(rt.alloc(), "check")?;
+    let mut text = Vec::from_slice(rt.alloc(), ANSWERS)?;
+    text.extend_from_slice(b"eliminate 1 2,0,1/1,0,2 left 1 0,0,0 1:1,2:1\nend\n")?;
+    for (read, write, status, out) in [
+        (1, 0, 3, b"".as_slice()),
+        (0, 1, 4, b""),
+        (0, 0, 0, b"valid\n"),
+    ] {
+        let mut source = MemSource::new(rt.alloc(), text.as_slice(), 100, &[read])?;
+        let mut sink = MemSink::new(rt.alloc(), 64, &[write])?;
+        assert_eq!(rt;
+            plain_command(rt.alloc(), words.as_slice(), &mut source, &mut sink),
+            status
+        );
+        assert!(rt; sink.bytes() == out);
+    }
     Ok(())
 }
 

@@ -1,4 +1,5 @@
 //! Sample surveys beside eliminators.
+use super::words_of;
 use crate::command;
 use edges::{DoorEnds, MemDoor, OpenGate, QuietSink, QuietSource};
 use std::alloc::{AllocError, Global};
@@ -34,15 +35,6 @@ const SAMPLE_RUNS: [(&str, u8, &[u8]); 4] = [
     ),
     ("run --sample 1 --shape 2x2:3", 1, b"definition degree\n"),
 ];
-
-/// The words of a line.
-fn words_of(alloc: Global, line: &str) -> Result<Vec<String>, AllocError> {
-    let mut words = Vec::new(alloc);
-    for word in line.split(' ') {
-        words.push(String::from_str(alloc, word)?)?;
-    }
-    Ok(words)
-}
 
 /// The status that the words end with, and what they write.
 fn ended<R: Threads + Wait + Sync>(

@@ -1,19 +1,14 @@
 //! Connections that are served by the command.
-use super::USAGE;
+use super::{THREE, USAGE, words_of};
 use crate::{Ended, command};
 use edges::{DoorEnds, MemDoor, MemSink, MemSource, OpenGate};
 use session_protocol::SessionEnd;
-use std::alloc::{AllocError, Global};
+use std::alloc::Global;
 use std::process::Abort;
 use std::sync::Wait;
 use std::test::Fail;
 use std::thread::Threads;
 use survey_hall::{ServeEnd, Served};
-
-/// Three criteria of two levels, and a respondent.
-const THREE: &[u8] = b"{\"criteria\":[{\"levels\":[\"high\",\"low\"],\"name\":\"price\"},\
-    {\"levels\":[\"slow\",\"fast\"],\"name\":\"speed\"},{\"levels\":[\"loud\",\"quiet\"],\"name\":\"noise\"}],\
-    \"degree\":3,\"respondents\":[{\"code\":\"k1\",\"name\":\"ana\"}]}\n";
 
 /// What each connection says.
 const SAID: &[u8] =
@@ -45,15 +40,6 @@ fn two(words: &'static str, status: u8, text: &'static [u8]) -> Case {
         status,
         text,
     }
-}
-
-/// The words of a line.
-fn words_of(alloc: Global, line: &str) -> Result<Vec<String>, AllocError> {
-    let mut words = Vec::new(alloc);
-    for word in line.split(' ') {
-        words.push(String::from_str(alloc, word)?)?;
-    }
-    Ok(words)
 }
 
 /// A door with so many connections.
