@@ -5,7 +5,7 @@ usage: load.py surveys [SEED]    16 respondents with 4 desks each answer by hidd
                                  line or before a reply and come back, beside clients that say nothing, send no messages or never read;
                                  each record has to be `valid complete`, and the values have to rank all classes as the hidden ones do
        load.py speed [RUNS]      replies a second, and how long each takes, of desks that answer at once and of desks that think for
-                                 0.1 s; a plain echo server beside it
+                                 0.1 s, and of 64 that think for 1 s; a plain echo server beside it
        load.py memory            the memory of 16 surveys, before the first connection and after all were answered from 64 desks
 """
 import contextlib
@@ -364,11 +364,11 @@ def echo_server():
         process.terminate()
 
 
-def survey_speed(runs, thinks):
-    """Of desks that think for so many seconds before each answer."""
+def survey_speed(runs, thinks, shapes=SPEED, numbers=(1, RESPONDENTS, RESPONDENTS * DESKS)):
+    """Of these numbers of desks, which think for so many seconds before each answer."""
     row("Classes", "Eliminators", "Desks", "Replies a second", "`next`: 50th", "99th", "longest", "`answer`: 50th", "99th", "longest")
     row(*["---"] * 10)
-    for shape, eliminators, desks in itertools.product(SPEED, (0, 2), (1, 16, 64)):
+    for shape, eliminators, desks in itertools.product(shapes, (0, 2), numbers):
         times, taken = {"next": [], "answer": []}, 0
         for seed in range(runs):
             with server(*shape, eliminators) as (port, _):
@@ -400,6 +400,8 @@ def speed(runs=3):
     for thinks in (0, 0.1):
         survey_speed(runs, thinks)
         print()
+    survey_speed(runs, 1, SPEED[:1], [RESPONDENTS * DESKS])
+    print()
     plain_speed(runs)
 
 
