@@ -5,7 +5,7 @@ use Rattle.result_file.proofs.ListEnds.{snoc_once}
 use Rattle.survey_run.specs.Each.{EachFrom, EachZipFrom, StackFrom}
 use Rattle.survey_run.proofs.EachLemmas.{zip_push, zip_length}
 
--- the first elements, so many, were changed, and the rest not
+-- the first `count` elements were changed, and the rest not
 pub record IsChangedTo {X : Type 0} (P : ℕ → X → X → Type 0) (Q : ℕ → X → Type 0) (count : ℕ) (old new : List X) : Type 0 where
   pub front : List X
   pub changed : List X

@@ -91,7 +91,7 @@ gathers_none listed respondent sessions seen told none is = record {
   own = ap (λ (s : Seen). s.own) is;
 }
 
--- what so many desks said, joined
+-- what `count` desks said, joined
 pub record GathersDesks (listed : Listed) (respondent : ℕ) (sessions : List ScriptSessionView) (seen : Seen) (count : ℕ) (told : List DeskTold) : Type 0 where
   pub parts : List DeskPart
   pub long : length parts ≡ count

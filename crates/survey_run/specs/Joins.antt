@@ -69,7 +69,7 @@ WorkingAt surveys n working = WorksFor surveys (n + 1) working
 abbrev pub WorkedAt : List Survey → ℕ → Vec Pass → Type 0
 WorkedAt surveys n passes = IsStack (n + 1) surveys passes
 
--- there is room for what so many surveys and eliminators bring back
+-- there is room for what `surveys` surveys and `workers` eliminators bring back
 pub record HasRooms (surveys workers : ℕ) (rooms : Rooms) : Type 0 where
   pub running : (rooms.running.items ≡ []) × (surveys ≤ vec_capacity rooms.running)
   pub spoken : (rooms.spoken.items ≡ []) × (surveys ≤ vec_capacity rooms.spoken)

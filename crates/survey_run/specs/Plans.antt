@@ -19,7 +19,7 @@ use Rattle.survey_run.specs.Workers.{WorkAt}
 abbrev pub pass_count : ℕ → ℕ
 pass_count workers = 1 + MAX_DESKS + workers
 
--- a survey of the model, beside so many eliminators
+-- a survey of the model, beside `workers` eliminators
 pub record IsSharedSurveyOf (criteria : Criteria) (workers : ℕ) (survey : Survey) : Type 0 where
   pub model : (survey_listed survey).criteria ≡ criteria
   pub listed : IsListed (survey_listed survey)
@@ -45,7 +45,7 @@ pub record PlanAt (criteria : Criteria) (workers : ℕ) (sessions : List ScriptS
   pub survey_is : IsSharedSurveyOf criteria workers survey
   pub plan_is : IsPlanFor survey (n + 1) sessions plan
 
--- the surveys of a script's respondents, with their plans, and the jobs of so many eliminators
+-- the surveys of a script's respondents, with their plans, and the jobs of `workers` eliminators
 pub record IsPlan (script : ScriptView) (workers : ℕ) (surveys : List Survey) (plans : List SurveyPlan) (works : List WorkerJob) : Type 0 where
   pub plans_are : EachZipFrom (PlanAt (model_of script.definition) workers script.sessions) 0 surveys plans
   pub count : length surveys ≡ length script.definition.respondents

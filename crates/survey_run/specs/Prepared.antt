@@ -10,13 +10,13 @@ use Rattle.survey_run.specs.Joins.{HasRooms}
 use Rattle.survey_run.specs.Plans.{PlanAt}
 use Rattle.survey_run.specs.Workers.{WorkAt}
 
--- there is room for the ends of so many surveys, and the replies to so many lines
+-- there is room for the ends of `surveys` surveys, and the replies to `lines` lines
 pub record HasEndRooms (surveys lines : ℕ) (rooms : EndRooms) : Type 0 where
   pub ends : (rooms.ends.items ≡ []) × (surveys ≤ vec_capacity rooms.ends)
   pub states : (rooms.states.items ≡ []) × (surveys ≤ vec_capacity rooms.states)
   pub replies : (rooms.replies.items ≡ []) × (lines ≤ vec_capacity rooms.replies)
 
--- a survey and its plan for each respondent, the jobs of so many eliminators, and room for all
+-- a survey and its plan for each respondent, the jobs of `workers` eliminators, and room for all
 pub record IsPrepared (script : ScriptView) (workers : ℕ) (prepared : Prepared) : Type 0 where
   pub plans : EachZipFrom (PlanAt (model_of script.definition) (vec_len prepared.plan.works) script.sessions) 0 prepared.plan.surveys.items prepared.plan.plans.items
   pub works : EachFrom (WorkAt (model_of script.definition) (vec_len prepared.plan.surveys) prepared.plan.surveys.items) 0 prepared.plan.works.items

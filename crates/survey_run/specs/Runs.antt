@@ -13,7 +13,7 @@ use Rattle.survey_state.specs.States.{Surveyed}
 use Rattle.survey_run.specs.RunViews.{RunView}
 use Rattle.survey_run.specs.Sessions.{SessionRun, IsRunOf, replies_of, of_respondent, of_desk, all_exchanges}
 
--- a respondent's survey after these sessions, beside so many eliminators
+-- a respondent's survey after these sessions, beside `workers` eliminators
 pub record IsSurveyRun (criteria : Criteria) (workers : ℕ) (sessions : List SessionRun) (state : Surveyed) : Type 0 where
   pub model : state.listed.criteria ≡ criteria
   pub listed : IsListed state.listed
@@ -35,7 +35,7 @@ pub record IsSurveyRun (criteria : Criteria) (workers : ℕ) (sessions : List Se
 abbrev pub count_of : Criteria → ℕ
 count_of criteria = class_count criteria.levels criteria.degree
 
--- the run of a script beside so many eliminators, with what came of each session, in input order
+-- the run of a script beside `workers` eliminators, with what came of each session, in input order
 pub record IsRunBy (script : ScriptView) (workers : ℕ) (end : RunView) (sessions : List SessionRun) : Type 0 where
   pub runs : AllZip IsRunOf script.sessions sessions
   -- a survey for each respondent

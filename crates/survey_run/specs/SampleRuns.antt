@@ -17,7 +17,7 @@ use Rattle.survey_run.specs.Workers.{WorkAt}
 pub record SamplesAlone (listed : Listed) (seed : ℕ) (seen : Seen) (summary : Summary) : Type 0 where
   pub alone : IsAlone seen → IsSample listed seed summary
 
--- one survey of the model, with a pass for its desk, one for each of so many eliminators, and one that the others are joined into
+-- one survey of the model, with a pass for its desk, one for each of `workers` eliminators, and one that the others are joined into
 pub record IsSampleReady (criteria : Criteria) (workers : ℕ) (ready : SampleReady) : Type 0 where
   pub survey : Survey
   pub one : ready.surveys.items ≡ survey ∷ []

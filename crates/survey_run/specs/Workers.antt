@@ -30,7 +30,7 @@ pub record HasWorked (worker : ℕ) (survey : Survey) (pass : Pass) : Type 0 whe
 abbrev pub IsStack : ℕ → List Survey → Vec Pass → Type 0
 IsStack worker surveys passes = StackFrom (λ n. HasWorked worker) 0 surveys passes.items
 
--- the job of an eliminator that has passes of these surveys so far, of so many in all
+-- the job of an eliminator that has passes of these surveys so far, of `count` in all
 pub record IsWorkFor (criteria : Criteria) (count : ℕ) (surveys : List Survey) (worker : ℕ) (job : WorkerJob) : Type 0 where
   pub number : job.number ≡ worker
   pub is_worker : IsWorker worker

@@ -273,7 +273,7 @@ pub(crate) struct Finished {
     pub(crate) worked: Vec<Vec<Pass>>,
 }
 
-/// Runs the desks beside the eliminators. Each thread is joined. Eliminators are told to stop when all desks are done; where
+/// Runs the desks beside the eliminators. Each thread is joined. Eliminators are stopped when all desks are done; where
 /// none has a thread, desks send no jobs, since nobody would take them.
 pub(crate) fn run_beside<'s, E: 's, R: Threads + Wait + Sync, G: Gate + Sync>(
     scope: &Scope<'s, E>,

@@ -68,6 +68,75 @@ const NO_MESSAGE: &[u8] = b"{\"refused\":\"message\"}\n";
 
 const SAID_BYE: &[u8] = b"{\"bye\":true}\n";
 
+/// Scripts of one desk's sessions, line by line, with their replies.
+const ONE_DESK: [(&[&[u8]], &[&[u8]]); 4] = [
+    // Always left: the first four classes are asked.
+    (
+        &[
+            M3, HELLO, NEXT, LEFT_1, NEXT, LEFT_2, NEXT, LEFT_3, NEXT, LEFT_4, NEXT, BYE,
+        ],
+        &[
+            WELCOME_6,
+            QUESTION_1,
+            ACCEPTED_1,
+            QUESTION_2,
+            ACCEPTED_2,
+            QUESTION_3,
+            ACCEPTED_3,
+            QUESTION_4,
+            ACCEPTED_4,
+            b"{\"complete\":true}\n",
+            SAID_BYE,
+        ],
+    ),
+    // Four open questions, one that other answers rank, a closed one, one that nobody asked, and the last answer taken back.
+    (
+        &[
+            M3,
+            HELLO,
+            NEXT,
+            NEXT,
+            NEXT,
+            NEXT,
+            NEXT,
+            LEFT_1,
+            LEFT_3,
+            LEFT_2,
+            LEFT_1,
+            b"{\"answer\":{\"question\":99,\"side\":\"left\"}}\n",
+            b"{\"ask\":\"withdraw\"}\n",
+            LEFT_2,
+            BYE,
+        ],
+        &[
+            WELCOME_6,
+            QUESTION_1,
+            QUESTION_2,
+            QUESTION_3,
+            QUESTION_4,
+            b"{\"full\":true}\n",
+            ACCEPTED_1,
+            ACCEPTED_3,
+            b"{\"implied\":{\"combination\":{\"answers\":[[1,\"1\"],[2,\"1\"]],\"increments\":[\"0\",\"0\",\"0\"],\"scale\":\"1\"},\"question\":2,\"verdict\":\"left\"}}\n",
+            b"{\"closed\":1}\n",
+            b"{\"unknown\":99}\n",
+            b"{\"withdrawn\":{\"answer\":2,\"question\":3}}\n",
+            ACCEPTED_2,
+            SAID_BYE,
+        ],
+    ),
+    // The answer ranks the second class.
+    (
+        &[M32, HELLO, NEXT, LEFT_1, NEXT, BYE],
+        &[WELCOME_3, FIRST_OF_3, ACCEPTED_1, THIRD_OF_3, SAID_BYE],
+    ),
+    // Lines that are no messages.
+    (
+        &[M3, HELLO, b"hi\n", b"{}\n", NEXT, BYE],
+        &[WELCOME_6, NO_MESSAGE, NO_MESSAGE, QUESTION_1, SAID_BYE],
+    ),
+];
+
 /// What the script of these lines leaves, beside this number of eliminators.
 fn run_lines<R: Threads + Wait + Sync, G: Gate + Sync>(
     rt: &R,
@@ -142,74 +211,7 @@ fn are_replies<R: Threads + Wait + Sync>(
 /// Sessions at one desk: questions in order, and each reply to an answer, a withdrawal and a line that is no message.
 #[test]
 fn session_of_one_desk(rt: HostRuntime) -> Result<(), Fail> {
-    let rows: [(&[&[u8]], &[&[u8]]); 4] = [
-        // Always left: the first four classes are asked.
-        (
-            &[
-                M3, HELLO, NEXT, LEFT_1, NEXT, LEFT_2, NEXT, LEFT_3, NEXT, LEFT_4, NEXT, BYE,
-            ],
-            &[
-                WELCOME_6,
-                QUESTION_1,
-                ACCEPTED_1,
-                QUESTION_2,
-                ACCEPTED_2,
-                QUESTION_3,
-                ACCEPTED_3,
-                QUESTION_4,
-                ACCEPTED_4,
-                b"{\"complete\":true}\n",
-                SAID_BYE,
-            ],
-        ),
-        // Four open questions, one that other answers rank, a closed one, one that nobody asked, and the last answer taken back.
-        (
-            &[
-                M3,
-                HELLO,
-                NEXT,
-                NEXT,
-                NEXT,
-                NEXT,
-                NEXT,
-                LEFT_1,
-                LEFT_3,
-                LEFT_2,
-                LEFT_1,
-                b"{\"answer\":{\"question\":99,\"side\":\"left\"}}\n",
-                b"{\"ask\":\"withdraw\"}\n",
-                LEFT_2,
-                BYE,
-            ],
-            &[
-                WELCOME_6,
-                QUESTION_1,
-                QUESTION_2,
-                QUESTION_3,
-                QUESTION_4,
-                b"{\"full\":true}\n",
-                ACCEPTED_1,
-                ACCEPTED_3,
-                b"{\"implied\":{\"combination\":{\"answers\":[[1,\"1\"],[2,\"1\"]],\"increments\":[\"0\",\"0\",\"0\"],\"scale\":\"1\"},\"question\":2,\"verdict\":\"left\"}}\n",
-                b"{\"closed\":1}\n",
-                b"{\"unknown\":99}\n",
-                b"{\"withdrawn\":{\"answer\":2,\"question\":3}}\n",
-                ACCEPTED_2,
-                SAID_BYE,
-            ],
-        ),
-        // The answer ranks the second class.
-        (
-            &[M32, HELLO, NEXT, LEFT_1, NEXT, BYE],
-            &[WELCOME_3, FIRST_OF_3, ACCEPTED_1, THIRD_OF_3, SAID_BYE],
-        ),
-        // Lines that are no messages.
-        (
-            &[M3, HELLO, b"hi\n", b"{}\n", NEXT, BYE],
-            &[WELCOME_6, NO_MESSAGE, NO_MESSAGE, QUESTION_1, SAID_BYE],
-        ),
-    ];
-    for (lines, replies) in &rows {
+    for (lines, replies) in &ONE_DESK {
         assert!(rt; are_replies(&rt, rt.alloc(), *lines, *replies)?);
     }
     Ok(())

@@ -17,7 +17,7 @@ use Rattle.survey_words.specs.declared.commands.Command.{Command}
 use Rattle.survey_words.specs.declared.commands.Command.TheVariants as command
 use Rattle.survey_words.specs.declared.shapes.Shape.{Shape}
 
--- the words name the run of a script beside so many eliminators
+-- the words name the run of a script beside `eliminators` eliminators
 abbrev pub IsRunCommand : List (String Global) → ℕ → Type 0
 IsRunCommand words eliminators = command_in words ≡ Some (command.Run eliminators)
 
@@ -56,7 +56,7 @@ AnswersScript (Err stop.ReadFault) before now ended = IsSilent 3 before now ende
 AnswersScript (Err stop.NoMemory) before now ended = IsSilent 5 before now ended.status × (ended.run ≡ None)
 AnswersScript (Err stop.DoorFault) before now ended = ⊥
 
--- the script of a source was run beside so many eliminators, or why not, and that answered. `told` is what was left in the source
+-- the script of a source was run beside `eliminators` eliminators, or why not, and that answered. `told` is what was left in the source
 -- before, `left` what is left now; `before` and `now` are what a sink holds; each where it is known
 pub record RunsAndAnswers (eliminators : ℕ) (told left before now : Option (List ℕ)) (ended : Ended) : Type 0 where
   pub outcome : Result RunView Stop

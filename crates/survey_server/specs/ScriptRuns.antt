@@ -24,7 +24,7 @@ stop_by script.NoMemory = NoMemory
 abbrev pub run_text : ScriptView → RunView → List SessionRun → List ℕ
 run_text script end sessions = sessions_text (count_of (model_of script.definition)) end.states sessions
 
--- the script ahead was run beside so many eliminators, and left this. `told` is the text that lay ahead, `left` what is left of it, `before`
+-- the script ahead was run beside `workers` eliminators, and left this. `told` is the text that lay ahead, `left` what is left of it, `before`
 -- and `now` are what a sink holds, each where it is known; `Puts` says how much of the replies' text the sink got
 pub record RunsScript (Puts : Option (List ℕ) → Option (List ℕ) → List ℕ → Type 0) (workers : ℕ) (end : RunView) (told left before now : Option (List ℕ)) : Type 0 where
   pub script : ScriptView

@@ -14,7 +14,7 @@ use Rattle.survey_server.specs.RankInput.{leading_definition}
 use Rattle.survey_server.specs.RankTexts.{definition_line}
 use Rattle.survey_words.specs.declared.commands.Command.TheVariants as command
 
--- the words name the serving of so many connections at a port, beside so many eliminators
+-- the words name the serving of `connections` connections at a port, beside `eliminators` eliminators
 abbrev pub IsServeCommand : List (String Global) → ℕ → ℕ → ℕ → Type 0
 IsServeCommand words port eliminators connections = command_in words ≡ Some (command.Serve port eliminators connections)
 
@@ -53,7 +53,7 @@ AnswersServing (Err (stop.WriteFault end)) before now ended = ⊥
 
 -- a type of doors with what they show: the ends of the connections to come; and of each end the text to come or written, and its faults
 module _ {I O D : Type 0} (left : I → Option (List ℕ)) (read_faults : I → ℕ) (written : O → Option (List ℕ)) (write_faults : O → ℕ) (ends : D → Option (List (I × O))) where
-  -- so many connections of the door were served the surveys of the definition that the first line is. `told` is the text that lay ahead,
+  -- `connections` connections of the door were served the surveys of the definition that the first line is. `told` is the text that lay ahead,
   -- where it is known
   pub record ServesDefinition (told : Option (List ℕ)) (connections : ℕ) (door door_now : D) (end : ServeEnd) : Type 0 where
     pub definition : DefinitionView

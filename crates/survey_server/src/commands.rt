@@ -240,7 +240,7 @@ fn script_part_word(part: ScriptPart) -> &'static [u8]
     }
 }
 
-/// Serves so many connections at a port the surveys of the definition of the source, beside so many eliminators.
+/// Serves the surveys of the source's definition to `connections` connections at a port, beside `eliminators` eliminators.
 fn serve<
     R: Threads + Wait + Sync,
     S: Source,

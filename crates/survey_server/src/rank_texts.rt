@@ -58,7 +58,7 @@ fn write_ranked(writer: &mut Writer<Vec<u8>>, ranked: &Ranked, place: u32) -> Re
     write_row(writer, &fields)
 }
 
-/// Writes a record of these fields. Over memory and with records of one length, a writer fails only for want of memory.
+/// Writes a record of these fields. Over memory and with records of one length, a writer fails only when out of memory.
 fn write_row(writer: &mut Writer<Vec<u8>>, fields: &[&[u8]]) -> Result<(), NoMemory>
     requires { IsReady writer.old }
     ensures ready { OnOk result (IsReady writer.new) }

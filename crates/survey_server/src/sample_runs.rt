@@ -13,7 +13,7 @@ use std::thread::Threads;
 use survey_run::run_sample;
 use survey_words::{MAX_ELIMINATORS, Shape};
 
-/// Runs the sample survey of a seed and a shape beside so many eliminators.
+/// Runs the sample survey of a seed and a shape beside `eliminators` eliminators.
 pub(crate) fn sample_beside<R: Threads + Wait + Sync, K: Sink, G: Gate + Sync>(
     rt: &R,
     alloc: Global,
@@ -36,7 +36,7 @@ pub(crate) fn sample_beside<R: Threads + Wait + Sync, K: Sink, G: Gate + Sync>(
     }
 }
 
-/// Runs the sample survey of a seed and the model of a shape beside so many eliminators.
+/// Runs the sample survey of a seed and the model of a shape beside `eliminators` eliminators.
 fn sample_model_beside<R: Threads + Wait + Sync, K: Sink, G: Gate + Sync>(
     rt: &R,
     alloc: Global,

@@ -32,7 +32,7 @@ pub enum Stop {
     NoMemory,
 }
 
-/// Runs the script that the source holds, beside so many eliminators, and then writes the replies to its lines in input order.
+/// Runs the script that the source holds, beside `workers` eliminators, and then writes the replies to its lines in input order.
 ///
 /// # Errors
 ///

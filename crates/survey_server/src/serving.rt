@@ -15,8 +15,8 @@ use std::thread::Threads;
 use survey_core::MAX_WORKERS;
 use survey_hall::{Hall, MAX_CONNECTIONS, ServeEnd, ServeStop, serve};
 
-/// Serves the surveys of the definition that the first line of the source is: so many connections at a port, beside so many eliminators.
-/// No more of the source is read. The surveys are made before the port is opened, so whoever can connect is served.
+/// Serves the surveys of the definition that the first line of the source is to `connections` connections at a port, beside `workers`
+/// eliminators. No more of the source is read. The surveys are made before the port is opened, so whoever can connect is served.
 ///
 /// # Errors
 ///

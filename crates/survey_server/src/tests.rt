@@ -7,11 +7,15 @@ mod samples;
 mod scripts;
 mod serving;
 
-use crate::plain_command;
-use edges::{MemSink, MemSource, QuietSink, QuietSource};
+use crate::{Ended, command, plain_command};
+use edges::{
+    DoorEnds, MemDoor, MemSink, MemSource, OpenGate, QuietSink, QuietSource, Sink, Source,
+};
 use std::alloc::{AllocError, Global};
 use std::process::Abort;
+use std::sync::Wait;
 use std::test::Fail;
+use std::thread::Threads;
 
 /// Three criteria of two levels, and two respondents.
 const THREE: &[u8] = b"{\"criteria\":[{\"levels\":[\"high\",\"low\"],\"name\":\"price\"},\
@@ -186,6 +190,27 @@ fn words_of(alloc: Global, line: &str) -> Result<Vec<String>, AllocError> {
         words.push(String::from_str(alloc, word)?)?;
     }
     Ok(words)
+}
+
+/// What comes of the command of a line of words, where nobody connects and no gate holds.
+fn ended_by<R: Threads + Wait + Sync, S: Source, K: Sink>(
+    rt: &R,
+    alloc: Global,
+    line: &str,
+    source: &mut S,
+    sink: &mut K,
+) -> Result<Ended, AllocError> {
+    let words = words_of(alloc, line)?;
+    let mut door = MemDoor::new(DoorEnds::new(alloc));
+    Ok(command(
+        rt,
+        alloc,
+        words.as_slice(),
+        source,
+        sink,
+        &mut door,
+        &OpenGate,
+    ))
 }
 
 /// Checks a text that comes in pieces, and compares the status and what is written.

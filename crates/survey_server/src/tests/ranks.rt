@@ -177,7 +177,7 @@ fn lines_before_a_table_are_refused_in_order(rt: HostRuntime) -> Result<(), Fail
     Ok(())
 }
 
-/// A header of 23 bytes, and then so many empty lines.
+/// A header of 23 bytes, and then `lines` empty lines.
 fn long_table(alloc: Global, lines: usize) -> Result<Vec<u8>, Fail> {
     let mut table = Vec::from_slice(alloc, b"name,price,speed,noise\n")?;
     let empty = vec![in alloc; b'\n'; lines]?;

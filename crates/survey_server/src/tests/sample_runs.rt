@@ -1,7 +1,6 @@
 //! Sample surveys beside eliminators.
-use super::words_of;
-use crate::command;
-use edges::{DoorEnds, MemDoor, OpenGate, QuietSink, QuietSource};
+use super::ended_by;
+use edges::{QuietSink, QuietSource};
 use std::alloc::{AllocError, Global};
 use std::process::Abort;
 use std::sync::Wait;
@@ -42,19 +41,9 @@ fn ended<R: Threads + Wait + Sync>(
     alloc: Global,
     line: &str,
 ) -> Result<(u8, Vec<u8>), AllocError> {
-    let words = words_of(alloc, line)?;
     let mut source = QuietSource::new(alloc, b"")?;
     let mut sink = QuietSink::new(alloc, 256)?;
-    let mut door = MemDoor::new(DoorEnds::new(alloc));
-    let ended = command(
-        rt,
-        alloc,
-        words.as_slice(),
-        &mut source,
-        &mut sink,
-        &mut door,
-        &OpenGate,
-    );
+    let ended = ended_by(rt, alloc, line, &mut source, &mut sink)?;
     let mut text = Vec::new(alloc);
     text.extend_from_slice(sink.bytes())?;
     Ok((ended.status, text))

@@ -1,8 +1,8 @@
 //! Scripts that are run.
-use super::{CARE, THREE, words_of};
-use crate::{Ended, command, plain_command};
+use super::{CARE, THREE, ended_by, words_of};
+use crate::{Ended, plain_command};
 use criteria_model::Side;
-use edges::{DoorEnds, MemDoor, MemSink, MemSource, OpenGate, QuietSink, QuietSource};
+use edges::{MemSink, MemSource, QuietSink, QuietSource};
 use std::alloc::{AllocError, Global};
 use std::sync::Wait;
 use std::test::Fail;
@@ -154,19 +154,9 @@ fn ran<R: Threads + Wait + Sync>(
     line: &str,
     text: &[u8],
 ) -> Result<(Ended, Vec<u8>), Fail> {
-    let words = words_of(alloc, line)?;
     let mut source = QuietSource::new(alloc, text)?;
     let mut sink = QuietSink::new(alloc, 4_096)?;
-    let mut door = MemDoor::new(DoorEnds::new(alloc));
-    let ended = command(
-        rt,
-        alloc,
-        words.as_slice(),
-        &mut source,
-        &mut sink,
-        &mut door,
-        &OpenGate,
-    );
+    let ended = ended_by(rt, alloc, line, &mut source, &mut sink)?;
     let written = Vec::from_slice(alloc, sink.bytes())?;
     Ok((ended, written))
 }
@@ -244,20 +234,10 @@ fn failing_run<R: Threads + Wait + Sync>(
     fails: (u32, u32),
     room: usize,
 ) -> Result<(Ended, Vec<u8>), Fail> {
-    let words = words_of(alloc, "run --eliminators 1")?;
     let text = joined(alloc, THREE, ALWAYS_LEFT)?;
     let mut source = MemSource::new(alloc, text.as_slice(), 64, &[fails.0])?;
     let mut sink = MemSink::new(alloc, room, &[fails.1])?;
-    let mut door = MemDoor::new(DoorEnds::new(alloc));
-    let ended = command(
-        rt,
-        alloc,
-        words.as_slice(),
-        &mut source,
-        &mut sink,
-        &mut door,
-        &OpenGate,
-    );
+    let ended = ended_by(rt, alloc, "run --eliminators 1", &mut source, &mut sink)?;
     let written = Vec::from_slice(alloc, sink.bytes())?;
     Ok((ended, written))
 }

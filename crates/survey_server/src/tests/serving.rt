@@ -42,7 +42,7 @@ fn two(words: &'static str, status: u8, text: &'static [u8]) -> Case {
     }
 }
 
-/// A door with so many connections.
+/// A door with `connections` connections.
 fn door_with(alloc: Global, connections: u32) -> Result<MemDoor, Fail> {
     let mut ends = DoorEnds::new(alloc);
     for _ in 0..connections {
@@ -124,7 +124,7 @@ fn connections_are_served(rt: HostRuntime) -> Result<(), Fail> {
         ),
         // No more is read than the first line.
         Case {
-            fails: (3, 0),
+            fails: (4, 0),
             ..two("serve 1 --connections 2", 0, b"served 2\n")
         },
         two("serve 1 --connections 3", 6, b""),
@@ -162,6 +162,10 @@ fn serving_fails(rt: HostRuntime) -> Result<(), Fail> {
         },
         Case {
             fails: (2, 0),
+            ..two(words, 3, b"")
+        },
+        Case {
+            fails: (3, 0),
             ..two(words, 3, b"")
         },
         Case {
