@@ -1,6 +1,6 @@
 -- Lists of which the first elements were changed, and stacks that lose their tops.
 use Rattle.std.specs.Prelude.{get_or}
-use Rattle.std.proofs.Common.{◌≡◌, ℕ, suc, ◌+◌, ◌<◌, ◌≤◌, List, [], ◌∷◌, ◌++◌, length, slice_set, refl, ap, sym, ◌∙◌, arith, append_assoc, append-nil, length-append, subst}
+use Rattle.std.proofs.Common.{◌≡◌, ℕ, ◌+◌, ◌<◌, List, [], ◌∷◌, ◌++◌, length, slice_set, refl, ap, sym, ◌∙◌, arith, append_assoc, append-nil, length-append, subst}
 use Rattle.result_file.proofs.ListEnds.{snoc_once}
 use Rattle.survey_run.specs.Each.{EachFrom, EachZipFrom, StackFrom}
 use Rattle.survey_run.proofs.EachLemmas.{zip_push, zip_length}
@@ -64,15 +64,6 @@ more_of P Q i old new front changed (z ∷ zs) x y was now long each left less i
 pub one_more_changed : {X : Type 0} (P : ℕ → X → X → Type 0) (Q : ℕ → X → Type 0) (i : ℕ) (old new : List X) (x y : X) → IsChangedTo P Q i old new
     → i < length new → x ≡ get_or new i x → P i x y → IsChangedTo P Q (i + 1) old (slice_set new i y)
 one_more_changed P Q i old new x y part less is p = more_of P Q i old new part.front part.changed part.rest x y part.was part.now part.long part.each part.left less is p
-
-all_of : {X : Type 0} (P : ℕ → X → X → Type 0) (i : ℕ) (old new front changed rest : List X) → old ≡ front ++ rest → new ≡ changed ++ rest → length changed ≡ i
-    → EachZipFrom P 0 front changed → length new ≤ i → EachZipFrom P 0 old new
-all_of P i old new front changed [] was now long each none =
-    let a : old ≡ front = was ∙ append-nil front in
-    let b : new ≡ changed = now ∙ append-nil changed in
-    rw (a, b) each
-all_of P i old new front changed (z ∷ zs) was now long each none =
-    let a : length new ≡ length changed + suc (length zs) = ap {B = ℕ} length now ∙ length-append changed (z ∷ zs) in absurd (omega (arith, a, long, none))
 
 pub changed_length : {X : Type 0} (P : ℕ → X → X → Type 0) (Q : ℕ → X → Type 0) (i : ℕ) (old new : List X) → IsChangedTo P Q i old new → length new ≡ length old
 changed_length P Q i old new part =

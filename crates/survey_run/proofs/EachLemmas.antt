@@ -1,6 +1,6 @@
 -- Facts for each element of a list, with its number.
 use Rattle.std.specs.Prelude.{get_or}
-use Rattle.std.proofs.Common.{◌≡◌, ℕ, zero, suc, ◌+◌, List, [], ◌∷◌, ◌++◌, length, take, drop, Some, slice_get, None, refl, ap, sym, ◌∙◌, arith, append_assoc, append-nil, length-append, subst}
+use Rattle.std.proofs.Common.{◌≡◌, ℕ, zero, suc, ◌+◌, List, [], ◌∷◌, ◌++◌, length, take, drop, Some, slice_get, refl, ap, sym, ◌∙◌, arith, append_assoc, append-nil, length-append, subst}
 use Rattle.std.specs.List.{AllZip}
 use Rattle.survey_core.proofs.ListSteps.{take_next}
 use Rattle.survey_run.specs.Each.{EachFrom, EachZipFrom, StackFrom}
@@ -129,7 +129,3 @@ all_zip_from P n (x ∷ xs) (y ∷ ys) each = (each.0, all_zip_from P (n + 1) xs
 
 pub pop_length : {X : Type 0} (xs ys : List X) (y : X) → xs ≡ ys ++ y ∷ [] → length xs ≡ length ys + 1
 pop_length xs ys y e = ap {B = ℕ} length e ∙ length-append ys (y ∷ [])
-
-pub nil_of_length : {X : Type 0} (xs : List X) → length xs ≡ 0 → xs ≡ []
-nil_of_length [] none = refl
-nil_of_length (x ∷ xs) none = absurd (omega arith)

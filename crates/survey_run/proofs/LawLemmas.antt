@@ -1,5 +1,5 @@
 -- Laws of what a run leaves, from the laws of conversations and journals.
-use Rattle.std.proofs.Common.{◌≡◌, ◌≢◌, ◌⊎◌, inl, inr, ℕ, suc, ◌+◌, ◌<◌, ◌≤◌, ◌==◌, Bool, true, false, cond, List, [], ◌∷◌, ◌++◌, length, map, get_or, append-nil, All, Option, Some, slice_get, refl, ap, sym, ◌∙◌, subst, arith}
+use Rattle.std.proofs.Common.{◌≡◌, ◌≢◌, ◌⊎◌, inl, inr, ℕ, suc, ◌+◌, ◌<◌, ◌≤◌, ◌==◌, Bool, true, false, cond, List, [], ◌∷◌, ◌++◌, length, map, get_or, append-nil, All, Some, slice_get, refl, ap, sym, ◌∙◌, subst, arith}
 use Rattle.std.specs.Prelude.{Any, AllPairs}
 use Rattle.std.specs.List.{flat_map}
 use Rattle.std.proofs.lemmas.Bool.{eq-eqb, eqb-true, true≢false}
@@ -8,8 +8,6 @@ use mathlib.Core.List.{IsPrefix}
 use Rattle.criteria_model.specs.Criteria.{Criteria}
 use Rattle.pair_enumeration.specs.Listed.{Listed, IsListed}
 use Rattle.row_laws.proofs.ListLemmas.{Any-cases, Any-here, Any-there}
-use Rattle.json_forms.specs.declared.messages.Message.{Message}
-use Rattle.json_forms.specs.declared.replies.Reply.TheVariants.{Welcome}
 use Rattle.survey_core.specs.declared.events.Event.{Event}
 use Rattle.survey_core.specs.Legal.{IsLegal}
 use Rattle.survey_core.proofs.ListSteps.{Each, Each-All, All-Each}
@@ -17,21 +15,17 @@ use Rattle.survey_core.proofs.NextTables.{flat_map-same}
 use Rattle.survey_replies.specs.Gists.{gist_of}
 use Rattle.survey_replies.specs.PlainLaws.{IsAlone}
 use Rattle.survey_replies.specs.Outcomes.{Exchange, at_of}
-use Rattle.survey_replies.specs.Requests.{Request}
-use Rattle.survey_replies.specs.Calls.{IsCall, Seen, unseen, Conversation, IsReplyIn, end_of, occurrences, places_of, reply_places}
+use Rattle.survey_replies.specs.Calls.{Seen, unseen, Conversation, IsReplyIn, end_of, occurrences, places_of, reply_places}
 use Rattle.survey_replies.specs.JournalLaws.{DeskRun, WorkerRun, MakesJournal}
 use Rattle.survey_replies.specs.PlainRun.{IsPlainRun, plain_start}
 use Rattle.survey_replies.specs.Records.{recorded}
-use Rattle.survey_replies.proofs.CallLemmas.{no_place_falls_lem, conversation_longer, own_are_of_replies_lem, prefix_get, prefix_length, prefix_trans, read_same, replies_stand_lem}
+use Rattle.survey_replies.proofs.CallLemmas.{no_place_falls_lem, own_are_of_replies_lem, prefix_get, read_same, replies_stand_lem}
 use Rattle.survey_replies.proofs.JournalLemmas.{each_eliminate_has_its_worker_lem, each_has_one_reply_lem, times_both}
 use Rattle.survey_replies.proofs.PlainLemmas.{alone_is_plain_lem, alone_is_the_plain_lem, legal_prefix}
 use Rattle.survey_state.specs.States.{Surveyed}
-use Rattle.session_protocol.specs.Exchanges.{IsAnswered, asked_by, reply_by}
-use Rattle.session_protocol.specs.Sessions.{CanBeWritten}
-use Rattle.session_protocol.proofs.ReplyCases.{answer_within, writable}
 use Rattle.survey_run.specs.Laws.{DeskReadsWhatItWrote, EachEliminateHasItsMaker, EachEventHasItsReply, EachReplyStands, OneDeskRunsPlain}
 use Rattle.survey_run.specs.Runs.{IsSurveyRun}
-use Rattle.survey_run.specs.Sessions.{MessageRun, SessionRun, all_exchanges, message_exchange, message_exchanges, message_reply, of_desk, replies_of}
+use Rattle.survey_run.specs.Sessions.{MessageRun, SessionRun, all_exchanges, message_exchange, message_exchanges, of_desk}
 
 -- ---- what a desk said
 -- the one conversation of a desk, over all its sessions

@@ -4,7 +4,7 @@ ghost use Rattle.std.specs.Thread.{IsSync};
 ghost use Rattle.json_forms.specs.DefinitionViews.{model_of};
 ghost use Rattle.pair_enumeration.specs.Listed.{IsListed};
 ghost use Rattle.shared_survey.specs.declared.survey.Survey.{Survey as SurveySeen};
-ghost use Rattle.shared_survey.specs.Passes.{IsPassOf, desk_of, pass_seen, pass_weight, survey_listed};
+ghost use Rattle.shared_survey.specs.Passes.{desk_of, survey_listed};
 ghost use Rattle.survey_script.specs.ScriptViews.{ScriptSessionView};
 ghost use Rattle.survey_run.specs.Desks.{HasSpoken, IsJobFor};
 ghost use Rattle.survey_run.specs.DeskRuns.{RunsFor};

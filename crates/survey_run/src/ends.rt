@@ -2,17 +2,14 @@
 ghost use Rattle.std.specs.Prelude.{◌≡◌, ℕ, ◌+◌, ◌≤◌, List, [], ◌∷◌, ◌++◌, length, vec_len, vec_capacity, IfOk};
 ghost use mathlib.Core.List.{IsPrefix};
 ghost use Rattle.criteria_model.specs.Criteria.{Criteria};
-ghost use Rattle.survey_core.specs.declared.limits.TheConstants.{MAX_DESKS};
 ghost use Rattle.survey_replies.specs.Calls.{unseen};
 ghost use Rattle.survey_replies.specs.JournalLaws.{WorkerRun};
-ghost use Rattle.shared_survey.specs.declared.survey.Survey.{Survey as SurveySeen};
 ghost use Rattle.shared_survey.specs.declared.pass.Pass.{Pass as PassSeen};
 ghost use Rattle.shared_survey.specs.Passes.{IsPassOf, pass_seen, pass_weight, survey_listed};
 ghost use Rattle.survey_script.specs.ScriptViews.{ScriptSessionView};
 ghost use Rattle.survey_run.specs.Each.{EachFrom, EachZipFrom, StackFrom};
-ghost use Rattle.survey_run.specs.Ends.{AreNumbered, DeskPart, EndAt, Gathers, IsEndOf};
-ghost use Rattle.survey_run.specs.Joins.{IsSpokenOf, SpeechAt, SpokenAt, WorkedAt};
-ghost use Rattle.survey_run.specs.Plans.{IsSharedSurveyOf};
+ghost use Rattle.survey_run.specs.Ends.{AreNumbered, DeskPart, EndAt, Gathers};
+ghost use Rattle.survey_run.specs.Joins.{SpeechAt, SpokenAt, WorkedAt};
 ghost use Rattle.survey_run.specs.Tops.{HasTop, LosesTop};
 
 use crate::desks::Spoken;

@@ -1,5 +1,5 @@
 //! The run of a script's sessions.
-ghost use Rattle.std.specs.Prelude.{◌≡◌, ◌≤◌, [], length, vec_len, vec_capacity, IfOk};
+ghost use Rattle.std.specs.Prelude.{◌≡◌, ◌≤◌, length, vec_len, IfOk};
 ghost use Rattle.std.specs.Thread.{IsSync};
 ghost use Rattle.json_forms.specs.DefinitionViews.{model_of};
 ghost use Rattle.survey_script.specs.ScriptViews.{line_count};

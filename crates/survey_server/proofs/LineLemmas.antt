@@ -3,7 +3,7 @@ use Rattle.std.proofs.Common.{◌≡◌, ℕ, ◌+◌, ◌≤◌, ◌<◌, suc, 
 use Rattle.std.specs.Prelude.{Option, Some, None, IfSome}
 use Rattle.std.proofs.lemmas.List.{append-nil, drop_all}
 use Rattle.edges.specs.Line.{HasNoLineEnd, first_line, line_end}
-use Rattle.edges.specs.Lines.{GivesEnd, GivesLine, GivesPiece, GivesTooLong, LinesView, ahead}
+use Rattle.edges.specs.Lines.{GivesLine, GivesPiece, GivesTooLong, LinesView, ahead}
 use Rattle.edges.specs.Told.{IsAtEnd}
 use Rattle.edges.proofs.LineLaws.{first_line-line, first_line-long, first_line-piece}
 use Rattle.survey_server.specs.RankInput.{LineIs, after_first_line}
@@ -46,18 +46,6 @@ piece_given new (Some text) (Some rest) gives =
     let none : rest ≡ [] = gives.ended in
     let parts = only text new.line (whole ∙ ap (λ (xs : List ℕ). new.line ++ xs) none ∙ append-nil new.line) gives.unbroken in
     (parts.0, gives.fits, ap (λ (xs : List ℕ). Some xs) (none ∙ sym parts.1))
-
-pub end_given : (new : LinesView) (before now : Option (List ℕ)) → GivesEnd new before now → IfSome before (λ text. LineIs true text new.line new.longest now)
-end_given new None now gives = tt
-end_given new (Some text) None gives = let same : None ≡ Some text = gives.same in cc
-end_given new (Some text) (Some rest) gives =
-    let same : Some rest ≡ Some text = gives.same in
-    let here : text ≡ rest = cc in
-    let none : rest ≡ [] = gives.ended in
-    let empty : text ≡ [] = here ∙ none in
-    let first : new.line ≡ first_line text = gives.no_line ∙ sym (ap first_line empty) in
-    let later : rest ≡ after_first_line text = none ∙ sym (ap after_first_line empty) in
-    (first, omega (arith, ap length gives.no_line), ap (λ (xs : List ℕ). Some xs) later)
 
 pub too_long_given : (new : LinesView) (before left : Option (List ℕ)) → GivesTooLong new before (ahead new left) → IfSome before (λ text. LineIs false text new.line new.longest (ahead new left))
 too_long_given new None left gives = tt

@@ -1,28 +1,17 @@
 -- What a definition calls criteria and levels.
 use Rattle.std.proofs.Common.{◌≡◌, ℕ, zero, suc, List, [], ◌∷◌, length, map, refl, sym, ap, ◌∙◌}
-use Rattle.std.specs.Prelude.{Option, Some, None, option_and_then, option_map}
+use Rattle.std.specs.Prelude.{option_map}
 use Rattle.std.proofs.lemmas.List.{length-map}
 use Rattle.std.proofs.lemmas.Option.{slice_get-map}
 use Rattle.row_laws.specs.Items.{item_at}
 use Rattle.json_forms.specs.DefinitionViews.{CriterionView, DefinitionView, level_counts}
-use Rattle.json_forms.specs.Definitions.{number_of}
-use Rattle.ranking.specs.Names.{IsEachNamed, level_named}
+use Rattle.ranking.specs.Names.{IsEachNamed}
 use Rattle.survey_server.specs.RankInput.{named_criteria}
 
 -- an item of a list that was mapped
 pub item_at-map : {A B : Type 0} (f : A → B) (items : List A) (number : ℕ) → item_at (map f items) number ≡ option_map f (item_at items number)
 item_at-map f items zero = refl
 item_at-map f items (suc place) = slice_get-map f items place
-
--- the level of a name, by a criterion's view
-pub level_by_view : (criteria : List CriterionView) (number : ℕ) (name : List ℕ)
-    → option_and_then (λ criterion. number_of name criterion.levels) (item_at criteria number)
-    ≡ option_and_then (λ names. level_named names name) (item_at (map (λ criterion. criterion.levels) criteria) number)
-level_by_view criteria number name = rw (item_at-map (λ (criterion : CriterionView). criterion.levels) criteria number) (by_item (item_at criteria number)) where
-  by_item : (found : Option CriterionView)
-      → option_and_then (λ criterion. number_of name criterion.levels) found ≡ option_and_then (λ names. level_named names name) (option_map (λ criterion. criterion.levels) found)
-  by_item None = refl
-  by_item (Some criterion) = refl
 
 counts_are : (criteria : List CriterionView) → map length (map (λ criterion. criterion.levels) criteria) ≡ level_counts criteria
 counts_are [] = refl

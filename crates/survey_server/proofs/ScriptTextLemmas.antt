@@ -1,11 +1,10 @@
 -- The texts of the replies to a script.
-use Rattle.std.proofs.Common.{◌≡◌, ℕ, zero, suc, ◌+◌, ◌<◌, ◌≤◌, ◌==◌, Bool, true, false, cond, List, [], ◌∷◌, ◌++◌, length, map, take, drop, get_or, All, Option, Some, refl, ap, sym, subst, ◌∙◌, arith, append_assoc, append-nil}
+use Rattle.std.proofs.Common.{◌≡◌, ℕ, suc, ◌+◌, ◌<◌, ◌≤◌, ◌==◌, Bool, true, false, cond, List, [], ◌∷◌, ◌++◌, length, map, take, drop, get_or, All, Option, Some, refl, ap, sym, subst, ◌∙◌, arith, append_assoc}
 use Rattle.std.specs.Prelude.{flat_map}
 use Rattle.std.specs.List.{AllZip}
 use Rattle.std.proofs.Math.Seq.{drop-append_seam, drop-cons, take-append_seam}
 use Rattle.std.proofs.lemmas.Bool.{eq-eqb}
 use Rattle.std.proofs.lemmas.List.{length-map, length-append}
-use Rattle.std.proofs.lemmas.Option.{slice_get_within}
 use Rattle.edges.specs.Told.{Appends, AppendsPrefix}
 use Rattle.edges.proofs.ToldLemmas.{Appends-append}
 use Rattle.criteria_model.specs.Criteria.{Criteria}
@@ -44,15 +43,6 @@ pub out_cut : (before mid now : Option (List ℕ)) (own later whole : List ℕ) 
 out_cut before mid now own later whole h put =
     subst (λ (l : List ℕ). AppendsPrefix before now l) (append_assoc h.sent own later ∙ h.whole)
     (out_failed before mid now own (h.sent ++ own) later (record { sent = h.sent; out = h.out; whole = refl }) put)
-
--- nothing is left
-pub out_all : (before now : Option (List ℕ)) (whole : List ℕ) → IsOut before now [] whole → Appends before now whole
-out_all before now whole h = subst (λ (l : List ℕ). Appends before now l) (sym (append-nil h.sent) ∙ h.whole) h.out
-
--- ---- items
-pub item_within : {X : Type 0} (items : List X) (n : ℕ) (x : X) → item_at items n ≡ Some x → (1 ≤ n) × (n ≤ length items)
-item_within items zero x at = absurd (cc)
-item_within items (suc k) x at = (omega arith, omega (arith, slice_get_within items k x at))
 
 -- ---- replies that stand
 -- each message of the session has a reply that is right in the final journal of its respondent's survey

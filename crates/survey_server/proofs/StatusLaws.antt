@@ -1,6 +1,6 @@
 -- What a status, and what was written, say of the file; and the status of a valid file.
 use Rattle.std.proofs.Common.{◌≡◌, ◌⊎◌, ℕ, ◌<◌, List, ◌∷◌, ◌++◌, length, take, zero, suc, refl, ap, sym, subst, ◌∙◌, arith, inl, inr, length-append, length-take}
-use Rattle.std.specs.Prelude.{Option, Some, None, IfSome, MatchOption, Result, Ok, Err, Vec}
+use Rattle.std.specs.Prelude.{Option, Some, None, IfSome, Result, Ok, Err, Vec}
 use Rattle.std.specs.declared.alloc.Global.{Global}
 use Rattle.std.specs.Io.KnownBytes.{append_known}
 use Rattle.std.proofs.Math.Seq.{take-length}
@@ -17,12 +17,10 @@ use Rattle.result_file.specs.Laws.{IsOnText}
 use Rattle.result_file.proofs.OneVerdict.{one_verdict_lem}
 use Rattle.result_file.proofs.WorthLaws.{worth}
 use Rattle.criteria_model.specs.Criteria.{Criteria}
-use Rattle.criteria_model.specs.declared.faults.ModelFault.{ModelFault}
 use Rattle.sample_survey.specs.declared.summary.Summary.{Summary}
 use Rattle.sample_survey.specs.Samples.{IsSampleOf}
 use Rattle.survey_words.specs.declared.shapes.Shape.{Shape}
-use Rattle.survey_server.specs.Command.{Answers, AnswersMigration, ChecksFile, MigratesFile, IsModelShape, IsSoundFile, IsSettlingFile, IsWorthAnswer, IsValidFile, IsValidResult, RefusesModel, SamplesModel, SamplesShape, SaysComplete, Writes, WritesSummary, verdict_line}
-use Rattle.survey_server.specs.SampleTexts.{sample_line}
+use Rattle.survey_server.specs.Command.{Answers, AnswersMigration, ChecksFile, MigratesFile, IsSoundFile, IsSettlingFile, IsWorthAnswer, IsValidFile, IsValidResult, SamplesModel, SaysComplete, Writes, WritesSummary, verdict_line}
 
 -- ---- status 0
 
@@ -183,18 +181,6 @@ done_where_result told before now status source_faults source_faults_now sink_fa
 pub sampled_by : (seed : ℕ) (shape : Shape) (criteria : Criteria) (summary : Summary) (before now : Option (List ℕ)) (status : ℕ) → IsSampleOf criteria seed summary
     → WritesSummary seed shape summary before now status → SamplesModel seed shape criteria before now status
 sampled_by seed shape criteria summary before now status is written = elim written [ inl line ↦ inl (summary, is, line) | inr silent ↦ inr silent ]
-
--- a shape that makes a model has its line, or there was no memory for it
-pub done_where_model : (seed : ℕ) (shape : Shape) (before now : Option (List ℕ)) (status : ℕ) → SamplesShape seed shape before now status → IsModelShape shape
-    → (status ≡ 4 → ⊥) → (status ≡ 0) ⊎ (status ≡ 5)
-done_where_model seed shape before now status sampled makes no_write =
-    let model : Criteria = record { levels = shape.counts; degree = shape.degree } in
-    let of_model : SamplesModel seed shape model before now status =
-    subst (λ (fault : Option ModelFault). MatchOption fault (SamplesModel seed shape model before now status) (λ f. RefusesModel f before now status)) makes sampled in
-    elim of_model [
-      | inl line ↦ done_or_failed (sample_line seed shape line.0) before now status line.2 no_write
-      | inr silent ↦ inr silent.0
-    ]
 
 -- ---- faults
 
