@@ -21,7 +21,7 @@ use Rattle.survey_script.proofs.TextLemmas.{Ends, line_told, lines_in-lines}
 -- ---- the numbers of lines that fail
 
 -- what fails, if anything, is a line after the definition's, of this number or a later one
-abbrev IsFrom : {X : Type 0} → ℕ → Result X ScriptStop → Type 0
+abbrev pub IsFrom : {X : Type 0} → ℕ → Result X ScriptStop → Type 0
 IsFrom number (Ok x) = Unit {0}
 IsFrom number (Err (Definition fault)) = ⊥
 IsFrom number (Err (Script line part)) = number ≤ line
@@ -44,7 +44,7 @@ go_on_from : {X : Type 0} (number : ℕ) (read : Result SessionsView ScriptPart)
 go_on_from number (Ok sessions) next from = from_next number (next sessions) (from sessions)
 go_on_from number (Err part) next from = omega arith
 
-sessions_from : (definition : DefinitionView) (number : ℕ) (sessions : SessionsView) (lines : List (List ℕ)) → IsFrom number (sessions_after definition number sessions lines)
+pub sessions_from : (definition : DefinitionView) (number : ℕ) (sessions : SessionsView) (lines : List (List ℕ)) → IsFrom number (sessions_after definition number sessions lines)
 sessions_from definition number sessions [] = ended_from number sessions.ended sessions.running
 sessions_from definition number sessions (line ∷ lines) =
     go_on_from number (after_line definition number sessions line) (λ next. sessions_after definition (number + 1) next lines)
@@ -61,14 +61,14 @@ under_from : (definition : DefinitionView) (lines : List (List ℕ)) → IsFrom 
 under_from definition lines = script_from definition (sessions_after definition 2 no_sessions lines) (sessions_from definition 2 no_sessions lines)
 
 -- a definition, or its fault
-abbrev IsDefinition : Result DefinitionView ScriptStop → Type 0
+abbrev pub IsDefinition : Result DefinitionView ScriptStop → Type 0
 IsDefinition read = ((definition : DefinitionView) × (read ≡ Ok definition)) ⊎ ((fault : DefinitionFault) × (read ≡ Err (Definition fault)))
 
 defined_is : (read : Result DefinitionView DefinitionFault) → IsDefinition (defined read)
 defined_is (Ok definition) = inl (definition, refl)
 defined_is (Err fault) = inr (fault, refl)
 
-first_by : (long : Bool) (line : List ℕ) → IsDefinition (if long then Err (Definition fault.Long) else defined (definition_of line))
+pub first_by : (long : Bool) (line : List ℕ) → IsDefinition (if long then Err (Definition fault.Long) else defined (definition_of line))
 first_by true line = inr (fault.Long, refl)
 first_by false line = defined_is (definition_of line)
 
@@ -106,7 +106,7 @@ defined_by_end (Ok definition) (Some text) now ends = (ends.0, ends.1, inr ends.
 -- ---- a whole script
 
 -- of no lines none fails
-no_line_fails : NoneFails []
+pub no_line_fails : NoneFails []
 no_line_fails = record {
   definition = λ rest fault is. refl;
   later = λ rest number part is. omega (arith, number_in (lines_in rest) number part is);
@@ -118,14 +118,14 @@ fails_at_piece (Some text) left has =
     let here = has.2 in
     (has.0, has.1, record { lines = []; each = All-nil HasNoLineEnd; piece = here.piece; unbroken = here.unbroken; taken = here.whole; none_fails = no_line_fails })
 
-stop_with : (definition : DefinitionView) (read : Result (List ScriptSessionView) ScriptStop) (stop : ScriptStop) → script_with definition read ≡ Err stop → read ≡ Err stop
+pub stop_with : (definition : DefinitionView) (read : Result (List ScriptSessionView) ScriptStop) (stop : ScriptStop) → script_with definition read ≡ Err stop → read ≡ Err stop
 stop_with definition (Ok sessions) stop is = cc
 stop_with definition (Err other) stop is = let same : other ≡ stop = cc in ap (λ (s : ScriptStop). Err s) same
 
 -- after the definition's line
 module _ (definition : DefinitionView) (text middle left : List ℕ) (cut : IsCutUnder definition middle left) where
   module _ (has : HasLine (λ line. first_definition line ≡ Ok definition) text middle) where
-    abbrev whole_lines : List (List ℕ)
+    abbrev pub whole_lines : List (List ℕ)
     whole_lines = has.line ∷ cut.lines
 
     each_whole : All HasNoLineEnd whole_lines
@@ -134,7 +134,7 @@ module _ (definition : DefinitionView) (text middle left : List ℕ) (cut : IsCu
     opened : (rest : List ℕ) → script_of (unlines whole_lines ++ rest) ≡ script_by (Ok definition) (cut.lines ++ lines_in rest)
     opened rest = ap script_in (lines_in-lines whole_lines rest each_whole) ∙ ap (λ (r : Result DefinitionView ScriptStop). script_by r (cut.lines ++ lines_in rest)) has.holds
 
-    none_fails_whole : NoneFails whole_lines
+    pub none_fails_whole : NoneFails whole_lines
     none_fails_whole = record {
       definition = λ rest fault is. absurd (subst (λ (r : Result ScriptView ScriptStop). IsFrom 2 r) (sym (opened rest) ∙ is) (under_from definition (cut.lines ++ lines_in rest)));
       later = λ rest number part is.

@@ -4,3 +4,5 @@ pub mod HelloLemmas
 pub mod StepLemmas
 pub mod WithinLemmas
 pub mod FaultLemmas
+pub mod ScriptLemmas
+pub mod EarlierLemmas

@@ -26,7 +26,7 @@ stop_along {X} one other stop same is = subst (λ (r : Result X ScriptStop). IsS
 -- ---- lines after the definition
 
 -- the line at the front of a text, and the sessions after it
-goes_on_by : (definition : DefinitionView) (number : ℕ) (old new : SessionsView) (line : List ℕ) → after_line definition number old line ≡ Ok new
+pub goes_on_by : (definition : DefinitionView) (number : ℕ) (old new : SessionsView) (line : List ℕ) → after_line definition number old line ≡ Ok new
     → (more : List (List ℕ)) → sessions_after definition number old (line ∷ more) ≡ sessions_after definition (number + 1) new more
 goes_on_by definition number old new line is more =
     ap (λ (r : Result SessionsView ScriptPart). go_on number r (λ next. sessions_after definition (number + 1) next more)) is

@@ -42,7 +42,7 @@ first_by false byte text (inl had) = (had.0, ap (begin_with byte) had.1)
 first_by false byte text (inr none) =
     subst (λ (xs : List ℕ). (others : List (List ℕ)) × (begin_with byte (lines_in xs) ≡ (byte ∷ first_line xs) ∷ others)) (sym none) ([], refl)
 
-lines_in-first : (byte : ℕ) (text : List ℕ) → (others : List (List ℕ)) × (lines_in (byte ∷ text) ≡ first_line (byte ∷ text) ∷ others)
+pub lines_in-first : (byte : ℕ) (text : List ℕ) → (others : List (List ℕ)) × (lines_in (byte ∷ text) ≡ first_line (byte ∷ text) ∷ others)
 lines_in-first byte [] = first_by (byte == line_end) byte [] (inr refl)
 lines_in-first byte (next ∷ text) = first_by (byte == line_end) byte (next ∷ text) (inl (lines_in-first next text))
 

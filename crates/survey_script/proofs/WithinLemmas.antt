@@ -26,9 +26,20 @@ count-append [] others = omega arith
 count-append (session ∷ sessions) others = omega (arith, count-append sessions others)
 
 -- a test that was passed
-other_way : {X : Type 0} (b : Bool) (part : ScriptPart) (rest : Result X ScriptPart) (x : X) → (if b then Err part else rest) ≡ Ok x → (b ≡ false) × (rest ≡ Ok x)
+pub other_way : {X : Type 0} (b : Bool) (part : ScriptPart) (rest : Result X ScriptPart) (x : X) → (if b then Err part else rest) ≡ Ok x → (b ≡ false) × (rest ≡ Ok x)
 other_way true part rest x is = cc
 other_way false part rest x is = (refl, is)
+
+-- a message that is a bye
+pub bye_is : (message : Option Message) → is_bye message ≡ true → message ≡ Some said.Bye
+bye_is None is = cc
+bye_is (Some (said.Hello hello)) is = cc
+bye_is (Some said.Next) is = cc
+bye_is (Some (said.Answer question side)) is = cc
+bye_is (Some said.Values) is = cc
+bye_is (Some said.Withdraw) is = cc
+bye_is (Some said.Result) is = cc
+bye_is (Some said.Bye) is = refl
 
 module _ (definition : DefinitionView) (number : ℕ) (ended : List ScriptSessionView) (short : number ≤ MAX_SCRIPT_LINES + 1) where
   abbrev respondents : ℕ
@@ -65,16 +76,6 @@ module _ (definition : DefinitionView) (number : ℕ) (ended : List ScriptSessio
   hello_within (Some said.Bye) new is within = cc
 
   -- a session goes on or ends
-  bye_is : (message : Option Message) → is_bye message ≡ true → message ≡ Some said.Bye
-  bye_is None is = cc
-  bye_is (Some (said.Hello hello)) is = cc
-  bye_is (Some said.Next) is = cc
-  bye_is (Some (said.Answer question side)) is = cc
-  bye_is (Some said.Values) is = cc
-  bye_is (Some said.Withdraw) is = cc
-  bye_is (Some said.Result) is = cc
-  bye_is (Some said.Bye) is = refl
-
   abbrev after_others : Bool → ScriptSessionView → Option Message → Result SessionsView ScriptPart
   after_others bye session message =
       if bye then Ok (sessions_view (ended ++ with_message session message ∷ []) None) else Ok (sessions_view ended (Some (with_message session message)))

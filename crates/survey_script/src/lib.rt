@@ -6,7 +6,8 @@
 //! [`MAX_SCRIPT_LINES`] lines after the definition. `admit` makes the tests on a hello in their order.
 //!
 //! Inside: `reading` goes from line to line, and `sessions_so_far` says what a line does to the sessions before it. `laws` says that
-//! the lines of a text are those that `edges` splits it into.
+//! the lines of a text are those that `edges` splits it into, that a text is a script exactly where its lines are a definition line
+//! and those of sessions, and that the lines before the one that fails don't.
 #![tactic(auto)]
 
 mod hellos;
