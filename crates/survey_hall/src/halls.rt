@@ -58,7 +58,7 @@ impl std::marker::Model for Hall {
 }
 
 impl Hall {
-    /// A hall in which nothing was asked, with room for so many eliminators.
+    /// A hall in which nothing was asked, with room for `workers` eliminators.
     ///
     /// # Errors
     ///
@@ -163,12 +163,12 @@ impl Hall {
         }
     }
 
-    /// So many eliminators more take jobs.
+    /// `count` more eliminators take jobs.
     pub(crate) fn begin_jobs(&self, count: u64) {
         self.takers.fetch_add(count, Ordering::SeqCst);
     }
 
-    /// So many eliminators take no more jobs, and are told to stop.
+    /// `count` eliminators take no more jobs, and are told to stop.
     pub(crate) fn end_jobs<R: Wait>(&self, rt: &R, count: u64) {
         self.takers.fetch_sub(count, Ordering::SeqCst);
         for _ in 0..count {

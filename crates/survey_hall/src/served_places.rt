@@ -12,7 +12,7 @@ pub(crate) struct ServedPlaces {
 }
 
 impl ServedPlaces {
-    /// No places, and room for so many.
+    /// No places, and room for `count` of them.
     ///
     /// # Errors
     ///

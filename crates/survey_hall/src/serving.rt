@@ -276,7 +276,7 @@ fn serve_in<
     }
 }
 
-/// Accepts so many connections, and serves each in a thread.
+/// Accepts `count` connections, and serves each in a thread.
 ///
 /// # Errors
 ///

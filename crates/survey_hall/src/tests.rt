@@ -336,7 +336,7 @@ fn door_of(alloc: Global, callers: &[Caller<'_>]) -> Result<MemDoor, Fail> {
     Ok(MemDoor::new(ends))
 }
 
-/// What so many connections at a door were served, or why none was told.
+/// What the first `count` connections at a door were served, or why none was told.
 fn at_door<R: Threads + Wait + Sync, G: Gate + Sync>(
     rt: &R,
     alloc: Global,
