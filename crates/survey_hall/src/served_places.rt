@@ -1,6 +1,4 @@
 //! Which connections were served, as their threads say.
-ghost use Rattle.std.specs.Prelude.{◌<◌, vec_len, vec_capacity};
-
 use json_forms::NoMemory;
 use std::alloc::Global;
 use std::sync::{Mutex, Wait};
