@@ -92,6 +92,16 @@ service_of definition fresh lines left written left_then written_then served new
   too_long = too_long;
 }
 
+-- there was no memory to begin
+pub not_begun : (definition : DefinitionView) (left written : Option (List ℕ))
+    → IsServed definition (connection_view left written) (connection_view left written) (Early NoMemory)
+not_begun definition left written = record {
+  kept = [];
+  by = (inl (refl, prepend_known-nil left), refl);
+  at_end = λ same. absurd (let e : Some NoMemory ≡ Some EndOfInput = same in cc);
+  too_long = λ same. absurd (let e : Some NoMemory ≡ Some LineTooLong = same in cc);
+}
+
 -- ---- the session after it
 -- an end that is neither a fault nor want of memory leaves of the text what it says
 leaves_text : (end : SessionEnd) (kept : List ℕ) (left : Option (List ℕ)) (rest : List ℕ) → prepend_known kept left ≡ Some rest

@@ -21,10 +21,6 @@ takes_one_more before middle None taken x first next = first ∙ ap (λ o. optio
 takes_one_more {X} before middle (Some rest) taken x first next =
     first ∙ ap (λ o. option_map (λ (l : List X). taken ++ l) o) next ∙ ap (λ (l : List X). Some l) (sym (append_assoc taken (x ∷ []) rest))
 
-pub takes_none : {X : Type 0} (told : Option (List X)) → TakesFirst told told []
-takes_none None = refl
-takes_none (Some rest) = refl
-
 -- an element of the second list is changed
 pub zip_set_second : {X Y : Type 0} (R : X → Y → Type 0) (xs : List X) (ys : List Y) (k : ℕ) (y new : Y) → slice_get ys k ≡ Some y
     → ((x : X) → R x y → R x new) → AllZip R xs ys → AllZip R xs (slice_set ys k new)
@@ -46,10 +42,6 @@ module _ {I O : Type 0} (left : I → Option (List ℕ)) (read_faults : I → �
     pub serves : ServesEach left read_faults written write_faults definition others rest
 
   module _ (definition : DefinitionView) (accepted : List (I × O)) where
-    pub none_served : (connections : List (Connection I O)) → ServesEach left read_faults written write_faults definition accepted connections
-        → IsServedSoFar definition accepted [] connections
-    none_served connections each = record { first = []; others = accepted; whole = refl; done = tt; serves = each }
-
     one_more_of : (first others : List (I × O)) (served : List Served) (one : Connection I O) (rest : List (Connection I O)) (result : Served)
         → accepted ≡ first ++ others → ServedEach left read_faults written write_faults definition first served
         → ServesEach left read_faults written write_faults definition others (one ∷ rest)

@@ -1,9 +1,9 @@
 -- How a connection is served.
-use Rattle.std.specs.Prelude.{◌≡◌, ◌⊎◌, ℕ, List, ◌∷◌, ◌++◌, All, Option, Some, None, Ok, Err}
+use Rattle.std.specs.Prelude.{◌≡◌, ◌⊎◌, ℕ, List, [], ◌∷◌, ◌++◌, All, Option, Some, None, Ok, Err}
 use Rattle.std.specs.Io.KnownBytes.{prepend_known}
 use Rattle.edges.specs.Faults.{CountsFaults}
 use Rattle.edges.specs.Line.{unlines}
-use Rattle.edges.specs.Told.{Appends, AppendsPrefix, IsAtEnd, Takes}
+use Rattle.edges.specs.Told.{Appends, AppendsPrefix, IsAtEnd}
 use Rattle.json_forms.specs.declared.replies.Word.{Word}
 use Rattle.json_forms.specs.declared.replies.Word.TheVariants.{Line}
 use Rattle.json_forms.specs.DefinitionViews.{DefinitionView, model_of}
@@ -41,13 +41,14 @@ pub record IsCutRefusal (definition : DefinitionView) (kept : List ℕ) (before 
   pub refused : MustRefuse definition kept before.ahead after.ahead word
   pub put : AppendsPrefix before.written after.written (refusal_text word)
 
--- a connection that ends before it is at a desk. Only the line of a refusal is written
+-- a connection that ends before it is at a desk. Only the line of a refusal is written. There was no memory to begin, and nothing was
+-- taken from the source, or none to read a whole first line
 abbrev pub EndsEarly : DefinitionView → List ℕ → ConnectionView → ConnectionView → SessionEnd → Type 0
 EndsEarly definition kept before after LineTooLong =
     EndsGreeting LineTooLong kept before.ahead after.ahead × Appends before.written after.written (refusal_text Line)
 EndsEarly definition kept before after WriteFault = IsCutRefusal definition kept before after
 EndsEarly definition kept before after NoMemory =
-    ((taken : List ℕ) × Takes before.ahead after.ahead taken) × (after.written ≡ before.written)
+    (((kept ≡ []) × (after.ahead ≡ before.ahead)) ⊎ EndsGreeting NoMemory kept before.ahead after.ahead) × (after.written ≡ before.written)
 EndsEarly definition kept before after end = EndsGreeting end kept before.ahead after.ahead × (after.written ≡ before.written)
 
 -- the first line passes its tests, and the rest of the connection is at that desk of a survey of the definition's model

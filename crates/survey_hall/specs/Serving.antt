@@ -28,7 +28,7 @@ module _ {I O : Type 0} (left : I → Option (List ℕ)) (read_faults : I → �
     pub taken : TakesFirst before after accepted
     pub each : ServedEach definition accepted served
 
-  -- the same of fewer connections than so many
+  -- the same of fewer connections than this number
   pub record HasServedFewer (definition : DefinitionView) (before after : Option (List (I × O))) (connections : ℕ) : Type 0 where
     pub served : List Served
     pub fewer : length served < connections

@@ -36,7 +36,7 @@ pub record IsUnwelcomed (listed : Listed) (desk : ℕ) (seen last : Seen) (befor
   pub unchanged : last ≡ seen
   pub none : counted ≡ record { end = WriteFault; replies = 0 }
 
--- a connection at a desk of a survey of this model. The desk had seen so many events when its pass was got, and at the end all of
+-- a connection at a desk of a survey of this model. The desk had seen `began` events when its pass was got, and at the end all of
 -- the front, whose events are legal. What its pass has made after the first ones are the places of these replies' turns
 pub record IsVisit (criteria : Criteria) (desk : ℕ) (before after : ConnectionView) (began : ℕ) (front : Front) (counted : CountedEnd) : Type 0 where
   pub listed : Listed

@@ -1,5 +1,4 @@
 //! Connections that are served in threads.
-ghost use Rattle.std.specs.Prelude.{ℕ, List, Option};
 ghost use Rattle.std.specs.Thread.{IsSync};
 ghost use Rattle.json_forms.specs.DefinitionViews.{DefinitionView};
 ghost use Rattle.survey_hall.specs.Connections.{WasServed};

@@ -1,5 +1,5 @@
 //! Serves connections.
-ghost use Rattle.std.specs.Prelude.{◌≡◌, ◌≤◌, ℕ, [], Some, OnErr, OnOk};
+ghost use Rattle.std.specs.Prelude.{◌≡◌, ◌≤◌, [], Some, OnErr, OnOk};
 ghost use Rattle.edges.specs.Faults.{CountsFaults, HasRisen};
 ghost use Rattle.edges.specs.Lines.{ahead};
 ghost use Rattle.edges.specs.Told.{Appends, AppendsPrefix, IsAtEnd};

@@ -37,7 +37,7 @@ pub struct Hall {
     workers: u32,
     // Those of the last respondent, then those of the one before, and so on.
     desks: Vec<Mutex<DeskSeat>>,
-    // There is none behind a lock while a call has it at work.
+    // One for each worker. There is none behind a lock while a call has it at work.
     eliminators: Vec<Mutex<Option<EliminatorSeat>>>,
     // The end of the job line by which eliminators are told to stop.
     stops: JobEnd,
@@ -54,11 +54,11 @@ impl std::marker::Model for Hall {
 
     ghost view = { λ hall. record { definition = hall.definition; workers = hall.workers } };
 
-    ghost invariant = { λ hall. vec_len hall.desks ≡ MAX_DESKS * length hall.definition.respondents };
+    ghost invariant = { λ hall. (vec_len hall.desks ≡ MAX_DESKS * length hall.definition.respondents) × (vec_len hall.eliminators ≡ hall.workers) };
 }
 
 impl Hall {
-    /// A hall in which nothing was asked, with room for so many eliminators.
+    /// A hall in which nothing was asked, with room for `workers` eliminators.
     ///
     /// # Errors
     ///
@@ -163,12 +163,12 @@ impl Hall {
         }
     }
 
-    /// So many eliminators more take jobs.
+    /// `count` more eliminators take jobs.
     pub(crate) fn begin_jobs(&self, count: u64) {
         self.takers.fetch_add(count, Ordering::SeqCst);
     }
 
-    /// So many eliminators take no more jobs, and are told to stop.
+    /// `count` eliminators take no more jobs, and are told to stop.
     pub(crate) fn end_jobs<R: Wait>(&self, rt: &R, count: u64) {
         self.takers.fetch_sub(count, Ordering::SeqCst);
         for _ in 0..count {
@@ -212,7 +212,9 @@ fn new_eliminators(
 fn behind_locks(
     alloc: Global,
     seats: Vec<EliminatorSeat>,
-) -> Result<Vec<Mutex<Option<EliminatorSeat>>>, NoMemory> {
+) -> Result<Vec<Mutex<Option<EliminatorSeat>>>, NoMemory>
+    ensures { IfOk result (λ locks. vec_len locks ≡ vec_len seats) }
+{
     let mut locks = Vec::new(alloc);
     for seat in seats {
         locks.push(Mutex::new(Some(seat)))?;
@@ -236,7 +238,8 @@ fn all_desks(
     requires line { line.now.surveys ≡ respondents }
     requires workers { vec_len seats.old ≤ MAX_WORKERS }
     requires models { All (λ seat. seat.model ≡ model.now) seats.old.items }
-    ensures { IfOk result (λ desks. vec_len desks ≡ MAX_DESKS * respondents) }
+    ensures desks { IfOk result (λ desks. vec_len desks ≡ MAX_DESKS * respondents) }
+    ensures workers { OnOk result (vec_len seats.new ≡ vec_len seats.old) }
 {
     let count = usize::from(MAX_DESKS) * respondents as usize;
     let mut desks = Vec::with_capacity(alloc, count)?;

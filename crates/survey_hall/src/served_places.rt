@@ -1,6 +1,4 @@
 //! Which connections were served, as their threads say.
-ghost use Rattle.std.specs.Prelude.{◌<◌, vec_len, vec_capacity};
-
 use json_forms::NoMemory;
 use std::alloc::Global;
 use std::sync::{Mutex, Wait};
@@ -12,7 +10,7 @@ pub(crate) struct ServedPlaces {
 }
 
 impl ServedPlaces {
-    /// No places, and room for so many.
+    /// No places, and room for `count` of them.
     ///
     /// # Errors
     ///

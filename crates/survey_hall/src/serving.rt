@@ -1,5 +1,5 @@
 //! Serves connections from a door, beside eliminators.
-ghost use Rattle.std.specs.Prelude.{◌≡◌, ◌≤◌, ◌<◌, ◌+◌, ◌-◌, ℕ, List, Option, [], Err, IfOk, OnErr, OnOk, Some, length, slice_get, vec_len, vec_capacity};
+ghost use Rattle.std.specs.Prelude.{◌≡◌, ◌≤◌, ◌<◌, ◌+◌, ◌-◌, List, [], Err, IfOk, OnErr, OnOk, Some, length, slice_get, vec_len, vec_capacity};
 ghost use Rattle.std.specs.Thread.{IsSync};
 ghost use Rattle.edges.specs.Faults.{CountsFaults, HasRisen};
 ghost use Rattle.json_forms.specs.DefinitionViews.{DefinitionView};
@@ -276,7 +276,7 @@ fn serve_in<
     }
 }
 
-/// Accepts so many connections, and serves each in a thread.
+/// Accepts `count` connections, and serves each in a thread.
 ///
 /// # Errors
 ///

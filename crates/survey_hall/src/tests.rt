@@ -13,6 +13,12 @@ const DEFINITION: &[u8] =
     b"{\"criteria\":[{\"levels\":[\"high\",\"low\"],\"name\":\"price\"},{\"levels\":[\"slow\",\"fast\"],\"name\":\"speed\"},\
     {\"levels\":[\"loud\",\"quiet\"],\"name\":\"noise\"}],\"degree\":3,\"respondents\":[{\"code\":\"k1\",\"name\":\"ana\"}]}";
 
+/// The same criteria, and two respondents.
+const TWO_RESPONDENTS: &[u8] =
+    b"{\"criteria\":[{\"levels\":[\"high\",\"low\"],\"name\":\"price\"},{\"levels\":[\"slow\",\"fast\"],\"name\":\"speed\"},\
+    {\"levels\":[\"loud\",\"quiet\"],\"name\":\"noise\"}],\"degree\":3,\"respondents\":[{\"code\":\"k1\",\"name\":\"ana\"},\
+    {\"code\":\"k2\",\"name\":\"ben\"}]}";
+
 /// A criterion of three levels and one of two, and one respondent.
 const THREE_LEVELS: &[u8] =
     b"{\"criteria\":[{\"levels\":[\"poor\",\"fair\",\"good\"],\"name\":\"care\"},{\"levels\":[\"far\",\"near\"],\"name\":\"place\"}],\
@@ -22,9 +28,13 @@ const HELLO: &[u8] = b"{\"hello\":{\"code\":\"k1\",\"desk\":1,\"name\":\"ana\"}}
 
 const HELLO_2: &[u8] = b"{\"hello\":{\"code\":\"k1\",\"desk\":2,\"name\":\"ana\"}}\n";
 
+const HELLO_BEN: &[u8] = b"{\"hello\":{\"code\":\"k2\",\"desk\":1,\"name\":\"ben\"}}\n";
+
 const NEXT: &[u8] = b"{\"ask\":\"next\"}\n";
 
 const ANSWER: &[u8] = b"{\"answer\":{\"question\":1,\"side\":\"left\"}}\n";
+
+const WITHDRAW: &[u8] = b"{\"ask\":\"withdraw\"}\n";
 
 const BYE: &[u8] = b"{\"ask\":\"bye\"}\n";
 
@@ -35,6 +45,8 @@ const WELCOME_2: &[u8] = b"{\"welcome\":{\"classes\":6,\"desk\":2}}\n";
 const QUESTION: &[u8] = b"{\"question\":{\"left\":[2,1,0],\"number\":1,\"right\":[1,2,0]}}\n";
 
 const ACCEPTED: &[u8] = b"{\"accepted\":1}\n";
+
+const WITHDRAWN: &[u8] = b"{\"withdrawn\":{\"answer\":1,\"question\":1}}\n";
 
 const CLOSED: &[u8] = b"{\"closed\":1}\n";
 
@@ -55,8 +67,8 @@ enum Told {
     },
 }
 
-fn hall_of(alloc: Global) -> Result<Hall, Fail> {
-    let definition = read_definition(alloc, DEFINITION).ok().ok_or("definition")?;
+fn hall_of(alloc: Global, definition: &[u8]) -> Result<Hall, Fail> {
+    let definition = read_definition(alloc, definition).ok().ok_or("definition")?;
     Ok(Hall::build(alloc, definition, 0)?)
 }
 
@@ -124,11 +136,22 @@ fn to_bye(began: u32, length: u32, replies: u32) -> Told {
     }
 }
 
-/// Three connections one after another: a question at one desk is answered at another, and is then closed at the first.
+/// A first session at a desk in which there was no memory to read a message.
+fn cut_short(length: u32, replies: u32) -> Told {
+    Told::Ran {
+        began: 0,
+        length,
+        replies,
+        end: SessionEnd::NoMemory,
+    }
+}
+
+/// Connections one after another: a question at one desk is answered at another, and is then closed at the first. Nothing of it is seen at a
+/// desk of another respondent, whose survey begins.
 #[test]
 fn connections_share_survey(rt: HostRuntime) -> Result<(), Fail> {
-    let hall = hall_of(rt.alloc())?;
-    let table: [([&[u8]; 3], Told, &[&[u8]]); 3] = [
+    let hall = hall_of(rt.alloc(), TWO_RESPONDENTS)?;
+    let table: [([&[u8]; 3], Told, &[&[u8]]); 4] = [
         (
             [HELLO, NEXT, BYE],
             to_bye(0, 1, 2),
@@ -144,12 +167,65 @@ fn connections_share_survey(rt: HostRuntime) -> Result<(), Fail> {
             to_bye(1, 2, 2),
             &[WELCOME, CLOSED, BYE_REPLY],
         ),
+        (
+            [HELLO_BEN, NEXT, BYE],
+            to_bye(0, 1, 2),
+            &[WELCOME, QUESTION, BYE_REPLY],
+        ),
     ];
     for (said, want, replied) in table {
         let (told, sink) = served(&rt, rt.alloc(), &hall, &said, (0, 0))?;
         assert!(rt; told == want, "{told:?}, not {want:?}");
         assert!(rt; are(sink.bytes(), replied));
     }
+    Ok(())
+}
+
+/// How many events were recorded by a first connection that asks, answers, withdraws and says bye, told this and with this written. None
+/// where it can't have ended so when an allocation was refused in it.
+fn recorded(told: Told, written: &[u8]) -> Option<u32> {
+    let rows: [(Told, u32, &[&[u8]]); 6] = [
+        (Told::Early(SessionEnd::NoMemory), 0, &[]),
+        (cut_short(0, 0), 0, &[WELCOME]),
+        (cut_short(1, 1), 1, &[WELCOME, QUESTION]),
+        (cut_short(2, 2), 2, &[WELCOME, QUESTION, ACCEPTED]),
+        (
+            cut_short(3, 3),
+            3,
+            &[WELCOME, QUESTION, ACCEPTED, WITHDRAWN],
+        ),
+        (
+            to_bye(0, 3, 4),
+            3,
+            &[WELCOME, QUESTION, ACCEPTED, WITHDRAWN, BYE_REPLY],
+        ),
+    ];
+    for (want, length, replied) in rows {
+        if told == want && are(written, replied) {
+            return Some(length);
+        }
+    }
+    None
+}
+
+/// A connection that ends for want of memory did so before its desk was got, with nothing written or recorded, or else after whole
+/// replies. The next one gets the desk, and sees what was recorded.
+///
+/// No allocator can be handed in that refuses, so a plain run shows the last row alone. `rt try --test --fail-alloc N -- refused_memory`
+/// refuses the allocation of that number; where it is one of the first connection, one of the rows must come.
+#[test]
+fn refused_memory(rt: HostRuntime) -> Result<(), Fail> {
+    let hall = hall_of(rt.alloc(), DEFINITION)?;
+    let said: &[&[u8]] = &[HELLO, NEXT, ANSWER, WITHDRAW, BYE];
+    let (told, sink) = served(&rt, rt.alloc(), &hall, said, (0, 0))?;
+    let Some(length) = recorded(told, sink.bytes()) else {
+        assert!(rt; false, "{told:?}");
+        return Ok(());
+    };
+    let (next, sink) = served(&rt, rt.alloc(), &hall, &[HELLO, BYE], (0, 0))?;
+    let want = to_bye(length, length, 1);
+    assert!(rt; next == want, "{next:?}, not {want:?}");
+    assert!(rt; are(sink.bytes(), &[WELCOME, BYE_REPLY]));
     Ok(())
 }
 
@@ -163,7 +239,7 @@ fn sink_fails_third(rt: HostRuntime) -> Result<(), Fail> {
         (4, 2, 3, &[WELCOME, QUESTION, ACCEPTED]),
     ];
     for (call, length, replies, replied) in table {
-        let hall = hall_of(rt.alloc())?;
+        let hall = hall_of(rt.alloc(), DEFINITION)?;
         let (told, sink) = served(
             &rt,
             rt.alloc(),
@@ -191,7 +267,7 @@ fn source_fails_after_hello(rt: HostRuntime) -> Result<(), Fail> {
         ([HELLO, NEXT, ANSWER], 2, 2, &[WELCOME, QUESTION, ACCEPTED]),
     ];
     for (said, length, replies, replied) in table {
-        let hall = hall_of(rt.alloc())?;
+        let hall = hall_of(rt.alloc(), DEFINITION)?;
         let (told, sink) = served(&rt, rt.alloc(), &hall, &said, (2, 0))?;
         let want = Told::Ran {
             began: 0,
@@ -208,7 +284,7 @@ fn source_fails_after_hello(rt: HostRuntime) -> Result<(), Fail> {
 /// First lines that fail a test, each at the first one that it fails.
 #[test]
 fn refused_hello(rt: HostRuntime) -> Result<(), Fail> {
-    let hall = hall_of(rt.alloc())?;
+    let hall = hall_of(rt.alloc(), DEFINITION)?;
     let table: [(&[u8], Word, &[u8]); 6] = [
         (NEXT, Word::Hello, b"{\"refused\":\"hello\"}\n"),
         (b"\n", Word::Hello, b"{\"refused\":\"hello\"}\n"),
@@ -244,7 +320,7 @@ fn refused_hello(rt: HostRuntime) -> Result<(), Fail> {
 /// A line that is no message is refused in a session. One that input ends within is dropped.
 #[test]
 fn cut_message(rt: HostRuntime) -> Result<(), Fail> {
-    let hall = hall_of(rt.alloc())?;
+    let hall = hall_of(rt.alloc(), DEFINITION)?;
     let ended = Told::Ran {
         began: 0,
         length: 0,
@@ -270,7 +346,7 @@ fn cut_message(rt: HostRuntime) -> Result<(), Fail> {
 /// Connections that end before a whole first line came, or by a fault at it.
 #[test]
 fn early_ends(rt: HostRuntime) -> Result<(), Fail> {
-    let hall = hall_of(rt.alloc())?;
+    let hall = hall_of(rt.alloc(), DEFINITION)?;
     let long = vec![in rt.alloc(); b' '; 4_097]?;
     let half: &[u8] = b"{\"hello\":{\"code\":\"k1\",\"desk\":1,\"name\":\"ana\"}}";
     let table: [(&[u8], (u32, u32), SessionEnd, &[&[u8]]); 7] = [
@@ -303,7 +379,7 @@ fn longest_line(rt: HostRuntime) -> Result<(), Fail> {
         (4_083, SessionEnd::LineTooLong, REFUSED_LINE),
     ];
     for (blanks, end, replied) in table {
-        let hall = hall_of(rt.alloc())?;
+        let hall = hall_of(rt.alloc(), DEFINITION)?;
         let blank = vec![in rt.alloc(); b' '; blanks]?;
         let (told, sink) = served(
             &rt,
@@ -336,7 +412,7 @@ fn door_of(alloc: Global, callers: &[Caller<'_>]) -> Result<MemDoor, Fail> {
     Ok(MemDoor::new(ends))
 }
 
-/// What so many connections at a door were served, or why none was told.
+/// What the first `count` connections at a door were served, or why none was told.
 fn at_door<R: Threads + Wait + Sync, G: Gate + Sync>(
     rt: &R,
     alloc: Global,

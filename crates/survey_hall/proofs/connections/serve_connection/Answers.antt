@@ -1,5 +1,11 @@
-use Rattle.survey_hall.proofs.ConnectionLemmas.{served_to_bye, service_of}
+use Rattle.survey_hall.proofs.ConnectionLemmas.{not_begun, served_to_bye, service_of}
 use Rattle.survey_hall.proofs.connections.serve_connection.Goals as goal
+
+pub returns-in_default-clause-served : goal.returns-in_default-clause-served
+returns-in_default-clause-served g c = not_begun c.args.hall.now.definition _ _
+
+pub returns-in_default-reserve-clause-served : goal.returns-in_default-reserve-clause-served
+returns-in_default-reserve-clause-served g c = not_begun c.args.hall.now.definition _ _
 
 pub returns-clause-served : goal.returns-clause-served
 returns-clause-served g c =
