@@ -66,6 +66,6 @@ done
     echo $? >"$first_format"
 } | : # nobody reads the pipe any more
 status=$(cat "$first_format")
-if [ "$status" != 141 ]; then echo "paprika check | : has status $status, not 141" && failed=1; fi
+if [ "$status" != 4 ]; then echo "paprika check | : has status $status, not 4" && failed=1; fi
 if [ $failed = 0 ]; then echo 'all as wanted'; fi
 exit $failed
