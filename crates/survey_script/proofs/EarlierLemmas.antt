@@ -11,8 +11,8 @@ use Rattle.survey_script.specs.declared.stops.ScriptStop.{ScriptStop}
 use Rattle.survey_script.specs.declared.stops.ScriptStop.TheVariants.{Definition, Script}
 use Rattle.survey_script.specs.Laws.{EarlierLinesPass}
 use Rattle.survey_script.specs.ScriptViews.{ScriptSessionView}
-use Rattle.survey_script.specs.Scripts.{NoneFails, SessionsView, after_line, first_definition, go_on, lines_in, no_sessions, script_by, script_in, script_of, sessions_after}
-use Rattle.survey_script.specs.Steps.{HasLine, IsCutUnder}
+use Rattle.survey_script.specs.Scripts.{IsCutAfter, NoneFails, SessionsView, after_line, first_definition, go_on, lines_in, no_sessions, script_by, script_in, script_of, sessions_after}
+use Rattle.survey_script.specs.Steps.{HasLine, NoneFailsUnder}
 use Rattle.survey_script.proofs.FaultLemmas.{IsDefinition, IsFrom, first_by, no_line_fails, none_fails_whole, sessions_from, stop_with}
 use Rattle.survey_script.proofs.TextLemmas.{lines_in-lines}
 
@@ -43,13 +43,13 @@ module _ (first : List ℕ) (front : List (List ℕ)) (rest : List ℕ) (unbroke
       → NoneFails (first ∷ front)
   under definition opens is =
       let middle : List ℕ = unlines front ++ rest in
-      let cut : IsCutUnder definition middle rest = record {
+      let cut : IsCutAfter (NoneFailsUnder definition) middle rest = record {
         lines = front;
         each = All-tail HasNoLineEnd first front unbroken;
         piece = [];
         unbroken = All-nil (λ byte. byte ≢ line_end);
         taken = ap (λ (xs : List ℕ). xs ++ rest) (sym (append-nil (unlines front)));
-        later = λ others later other fails.
+        holds = λ others later other fails.
             let from = is_later definition 2 number later part other no_sessions front (lines_in rest) others is (omega (arith, short)) fails in omega (arith, from);
       } in
       let has : HasLine (λ line. first_definition line ≡ Ok definition) (first ++ line_end ∷ middle) middle = record {

@@ -14,8 +14,8 @@ use Rattle.survey_script.specs.declared.stops.ScriptPart.{ScriptPart}
 use Rattle.survey_script.specs.declared.stops.ScriptStop.{ScriptStop}
 use Rattle.survey_script.specs.declared.stops.ScriptStop.TheVariants.{Definition, Script, ReadFault, NoMemory}
 use Rattle.survey_script.specs.ScriptViews.{ScriptSessionView, ScriptView}
-use Rattle.survey_script.specs.Scripts.{FailsFirst, IsCutAt, IsStopOf, NoneFails, SessionsView, after_line, defined, ended_at, first_definition, go_on, lines_in, no_sessions, script_by, script_in, script_of, script_with, sessions_after}
-use Rattle.survey_script.specs.Steps.{GoesTo, HasLine, HasPiece, IsCutUnder, IsDefinedBy, LeavesRest}
+use Rattle.survey_script.specs.Scripts.{IsCutAfter, IsStopOf, NoneFails, NoneFailsBeforeCut, SessionsView, after_line, defined, ended_at, first_definition, go_on, lines_in, no_sessions, script_by, script_in, script_of, script_with, sessions_after}
+use Rattle.survey_script.specs.Steps.{GoesTo, HasLine, HasPiece, IsDefinedBy, LeavesRest, NoneFailsUnder}
 use Rattle.survey_script.proofs.TextLemmas.{Ends, line_told, lines_in-lines}
 
 -- ---- the numbers of lines that fail
@@ -112,18 +112,18 @@ no_line_fails = record {
   later = λ rest number part is. omega (arith, number_in (lines_in rest) number part is);
 }
 
-pub fails_at_piece : (told left : Option (List ℕ)) → LeavesRest told left HasPiece → FailsFirst told left
+pub fails_at_piece : (told left : Option (List ℕ)) → LeavesRest told left HasPiece → NoneFailsBeforeCut told left
 fails_at_piece None left has = tt
 fails_at_piece (Some text) left has =
     let here = has.2 in
-    (has.0, has.1, record { lines = []; each = All-nil HasNoLineEnd; piece = here.piece; unbroken = here.unbroken; taken = here.whole; none_fails = no_line_fails })
+    (has.0, has.1, record { lines = []; each = All-nil HasNoLineEnd; piece = here.piece; unbroken = here.unbroken; taken = here.whole; holds = no_line_fails })
 
 pub stop_with : (definition : DefinitionView) (read : Result (List ScriptSessionView) ScriptStop) (stop : ScriptStop) → script_with definition read ≡ Err stop → read ≡ Err stop
 stop_with definition (Ok sessions) stop is = cc
 stop_with definition (Err other) stop is = let same : other ≡ stop = cc in ap (λ (s : ScriptStop). Err s) same
 
 -- after the definition's line
-module _ (definition : DefinitionView) (text middle left : List ℕ) (cut : IsCutUnder definition middle left) where
+module _ (definition : DefinitionView) (text middle left : List ℕ) (cut : IsCutAfter (NoneFailsUnder definition) middle left) where
   module _ (has : HasLine (λ line. first_definition line ≡ Ok definition) text middle) where
     abbrev pub whole_lines : List (List ℕ)
     whole_lines = has.line ∷ cut.lines
@@ -139,10 +139,10 @@ module _ (definition : DefinitionView) (text middle left : List ℕ) (cut : IsCu
       definition = λ rest fault is. absurd (subst (λ (r : Result ScriptView ScriptStop). IsFrom 2 r) (sym (opened rest) ∙ is) (under_from definition (cut.lines ++ lines_in rest)));
       later = λ rest number part is.
           let stops = stop_with definition (sessions_after definition 2 no_sessions (cut.lines ++ lines_in rest)) (Script number part) (sym (opened rest) ∙ is) in
-          omega (arith, cut.later (lines_in rest) number part stops);
+          omega (arith, cut.holds (lines_in rest) number part stops);
     }
 
-    cut_after_line : IsCutAt text left
+    cut_after_line : IsCutAfter NoneFails text left
     cut_after_line = record {
       lines = whole_lines;
       each = each_whole;
@@ -151,14 +151,14 @@ module _ (definition : DefinitionView) (text middle left : List ℕ) (cut : IsCu
       taken = has.whole ∙ ap (λ (xs : List ℕ). has.line ++ line_end ∷ xs) cut.taken
           ∙ sym (append_assoc has.line (line_end ∷ (unlines cut.lines ++ cut.piece)) left)
           ∙ ap (λ (xs : List ℕ). xs ++ left) (sym (append_assoc has.line (line_end ∷ unlines cut.lines) cut.piece));
-      none_fails = none_fails_whole;
+      holds = none_fails_whole;
     }
 
   back_is_none : (front back : List ℕ) → front ++ back ≡ [] → back ≡ []
   back_is_none [] back is = is
   back_is_none (byte ∷ front) back is = cc
 
-  cut_by : IsDefinedBy definition text middle → IsCutAt text left
+  cut_by : IsDefinedBy definition text middle → IsCutAfter NoneFails text left
   cut_by (inl has) = cut_after_line has
   cut_by (inr ends) =
       let none : left ≡ [] = back_is_none (unlines cut.lines ++ cut.piece) left (sym cut.taken ∙ ends.1) in
@@ -168,21 +168,21 @@ module _ (definition : DefinitionView) (text middle left : List ℕ) (cut : IsCu
         piece = text;
         unbroken = ends.0;
         taken = sym (append-nil text) ∙ ap (λ (xs : List ℕ). text ++ xs) (sym none);
-        none_fails = no_line_fails;
+        holds = no_line_fails;
       }
 
 pub fails_under : (definition : DefinitionView) (told middle left : Option (List ℕ)) → LeavesRest told middle (IsDefinedBy definition)
-    → LeavesRest middle left (IsCutUnder definition) → FailsFirst told left
+    → LeavesRest middle left (IsCutAfter (NoneFailsUnder definition)) → NoneFailsBeforeCut told left
 fails_under definition None middle left opens cut = tt
 fails_under definition (Some text) middle left opens cut =
-    let here = subst (λ (m : Option (List ℕ)). LeavesRest m left (IsCutUnder definition)) opens.1 cut in
+    let here = subst (λ (m : Option (List ℕ)). LeavesRest m left (IsCutAfter (NoneFailsUnder definition))) opens.1 cut in
     (here.0, here.1, cut_by definition text opens.0 here.0 here.2 opens.2)
 
 -- ---- the lines after the definition's
 
 pub cut_at_piece : (definition : DefinitionView) (number : ℕ) (old : SessionsView) (stop : ScriptStop) (before middle left : Option (List ℕ))
     → GoesTo definition number old before middle → (stop ≡ ReadFault → LeavesRest middle left HasPiece)
-    → stop ≡ ReadFault → LeavesRest before left (IsCutUnder definition)
+    → stop ≡ ReadFault → LeavesRest before left (IsCutAfter (NoneFailsUnder definition))
 cut_at_piece definition number old stop None middle left goes has failed = tt
 cut_at_piece definition number old stop (Some text) middle left goes has failed =
     let here = subst (λ (m : Option (List ℕ)). LeavesRest m left HasPiece) goes.1 (has failed) in
@@ -196,7 +196,7 @@ cut_at_piece definition number old stop (Some text) middle left goes has failed 
         piece = piece.piece;
         unbroken = piece.unbroken;
         taken = of.whole ∙ ap (λ (xs : List ℕ). unlines of.lines ++ xs) piece.whole ∙ sym (append_assoc (unlines of.lines) piece.piece here.0);
-        later = λ more line part is.
+        holds = λ more line part is.
             let from : number ≤ line = subst (λ (r : Result (List ScriptSessionView) ScriptStop). IsFrom number r) (sym (of.same more) ∙ is) (sessions_from definition number old more) in
             omega (arith, from, of.count);
       },

@@ -23,7 +23,7 @@ use Rattle.survey_script.specs.declared.stops.ScriptPart.{ScriptPart}
 use Rattle.survey_script.specs.declared.stops.ScriptStop.{ScriptStop}
 use Rattle.survey_script.specs.declared.stops.ScriptStop.TheVariants.{Definition}
 use Rattle.survey_script.specs.Hellos.{admission_of}
-use Rattle.survey_script.specs.Laws.{AreScriptLines, AreSessionLines, ScriptsAreLines, SessionLines, first_and_others, lines_of}
+use Rattle.survey_script.specs.Laws.{AreScriptLines, AreSessionLines, ScriptsAreLines, SessionLines, first_and_others, lines_of_session}
 use Rattle.survey_script.specs.ScriptViews.{IsBetween, IsUpToBye, IsWholeScript, IsWholeSession, ScriptSessionView, ScriptView, begun_session, is_bye, is_hello, script_view, with_message}
 use Rattle.survey_script.specs.Scripts.{SessionsView, after_hello, after_line, after_message, after_request, begun_by, defined, ended_at, first_definition, go_on, no_sessions, script_by, script_in, script_of, script_with, sessions_after, sessions_view}
 use Rattle.survey_script.specs.Steps.{AreWithin, IsBegunSession}
@@ -92,7 +92,7 @@ record Follow (definition : DefinitionView) (ended : List ScriptSessionView) (li
   pub later : List ScriptSessionView
   pub texts : List SessionLines
   pub same : all ≡ ended ++ later
-  pub whole : lines ≡ flat_map lines_of texts
+  pub whole : lines ≡ flat_map lines_of_session texts
   pub each : AllZip (AreSessionLines definition) later texts
 
 -- where one is running, they begin with the rest of its lines
@@ -274,14 +274,14 @@ module _ (definition : DefinitionView) where
 
   -- sessions, one after another
   reaches : (number : ℕ) (ended sessions : List ScriptSessionView) (texts : List SessionLines) → AllZip (AreSessionLines definition) sessions texts
-      → All Fits (flat_map lines_of texts) → number + length (flat_map lines_of texts) ≤ MAX_SCRIPT_LINES + 2 → length ended + length sessions ≤ MAX_SESSIONS
-      → sessions_after definition number (sessions_view ended None) (flat_map lines_of texts) ≡ Ok (ended ++ sessions)
+      → All Fits (flat_map lines_of_session texts) → number + length (flat_map lines_of_session texts) ≤ MAX_SCRIPT_LINES + 2 → length ended + length sessions ≤ MAX_SESSIONS
+      → sessions_after definition number (sessions_view ended None) (flat_map lines_of_session texts) ≡ Ok (ended ++ sessions)
   reaches number ended [] [] each fit few room = ap (λ (xs : List ScriptSessionView). Ok xs) (sym (append-nil ended))
   reaches number ended [] (lines ∷ texts) each fit few room = absurd each
   reaches number ended (session ∷ sessions) [] each fit few room = absurd each
   reaches number ended (session ∷ sessions) (lines ∷ texts) each fit few room =
       let are : AreSessionLines definition session lines = each.0 in
-      let rest : List (List ℕ) = flat_map lines_of texts in
+      let rest : List (List ℕ) = flat_map lines_of_session texts in
       let fits = all_parts lines.others rest (All-tail Fits lines.first (lines.others ++ rest) fit) in
       let begun : ScriptSessionView = begun_session session.respondent session.desk in
       let count : number + (suc (length lines.others + length rest)) ≤ MAX_SCRIPT_LINES + 2 = omega (arith, few, length-append lines.others rest) in
@@ -360,7 +360,7 @@ lines_read text script (first ∷ others) split is =
 
 lines_make : (text : List ℕ) (script : ScriptView) → AreScriptLines (first_and_others text) script → script_of text ≡ Ok script
 lines_make text script are =
-    let others : List (List ℕ) = flat_map lines_of are.sessions in
+    let others : List (List ℕ) = flat_map lines_of_session are.sessions in
     by_first text ∙ ap script_in are.whole
     ∙ ap (λ (r : Result DefinitionView ScriptStop). script_by r others) (passes_first are.first script.definition are.first_fits are.definition)
     ∙ ap (script_with script.definition) (reaches script.definition 2 [] script.sessions are.sessions are.each are.others_fit (omega (arith, are.few_lines)) (omega (arith, are.few_sessions)))

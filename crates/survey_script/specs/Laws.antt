@@ -36,8 +36,8 @@ pub record SessionLines : Type 0 where
   pub first : List ℕ
   pub others : List (List ℕ)
 
-abbrev pub lines_of : SessionLines → List (List ℕ)
-lines_of lines = lines.first ∷ lines.others
+abbrev pub lines_of_session : SessionLines → List (List ℕ)
+lines_of_session lines = lines.first ∷ lines.others
 
 -- the first is a hello that admits the session's respondent to its desk; the others are its messages, of which the last is a bye, and
 -- none before it is a bye or a hello
@@ -52,13 +52,13 @@ pub record AreSessionLines (definition : DefinitionView) (session : ScriptSessio
 pub record AreScriptLines (lines : List (List ℕ)) (script : ScriptView) : Type 0 where
   pub first : List ℕ
   pub sessions : List SessionLines
-  pub whole : lines ≡ first ∷ flat_map lines_of sessions
+  pub whole : lines ≡ first ∷ flat_map lines_of_session sessions
   pub definition : definition_of first ≡ Ok script.definition
   pub each : AllZip (AreSessionLines script.definition) script.sessions sessions
   pub first_fits : length first ≤ MAX_DEFINITION
-  pub others_fit : All (λ line. length line ≤ MAX_LINE) (flat_map lines_of sessions)
+  pub others_fit : All (λ line. length line ≤ MAX_LINE) (flat_map lines_of_session sessions)
   pub few_sessions : length script.sessions ≤ MAX_SESSIONS
-  pub few_lines : length (flat_map lines_of sessions) ≤ MAX_SCRIPT_LINES
+  pub few_lines : length (flat_map lines_of_session sessions) ≤ MAX_SCRIPT_LINES
 
 -- a text is a script exactly where its lines are the script's
 abbrev pub ScriptsAreLines : Type 0

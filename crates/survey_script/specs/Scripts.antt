@@ -146,15 +146,15 @@ pub record NoneFails (lines : List (List ℕ)) : Type 0 where
   pub definition : (rest : List ℕ) (fault : DefinitionFault) → script_of (unlines lines ++ rest) ≡ Err (Definition fault) → lines ≡ []
   pub later : (rest : List ℕ) (number : ℕ) (part : ScriptPart) → script_of (unlines lines ++ rest) ≡ Err (Script number part) → length lines < number
 
--- the source failed after so much of a text was taken: whole lines of which none fails, and then no whole line
-pub record IsCutAt (text left : List ℕ) : Type 0 where
+-- so much of a text was taken: whole lines of which P holds, and then no whole line
+pub record IsCutAfter (P : List (List ℕ) → Type 0) (text left : List ℕ) : Type 0 where
   pub lines : List (List ℕ)
   pub each : All HasNoLineEnd lines
   pub piece : List ℕ
   pub unbroken : HasNoLineEnd piece
   pub taken : text ≡ unlines lines ++ piece ++ left
-  pub none_fails : NoneFails lines
+  pub holds : P lines
 
 -- where the source failed, it did so before a line that fails had come whole
-abbrev pub FailsFirst : Option (List ℕ) → Option (List ℕ) → Type 0
-FailsFirst told left = IfSome told (λ text. (rest : List ℕ) × (left ≡ Some rest) × IsCutAt text rest)
+abbrev pub NoneFailsBeforeCut : Option (List ℕ) → Option (List ℕ) → Type 0
+NoneFailsBeforeCut told left = IfSome told (λ text. (rest : List ℕ) × (left ≡ Some rest) × IsCutAfter NoneFails text rest)

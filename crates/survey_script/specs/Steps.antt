@@ -81,14 +81,10 @@ GoesTo definition number sessions before now = LeavesRest before now (AreOfLines
 abbrev pub EndsWith : DefinitionView → ℕ → SessionsView → SessionsView → Option (List ℕ) → Type 0
 EndsWith definition number old new before = IfSome before (λ text. sessions_after definition number old (lines_in text) ≡ Ok new.ended)
 
--- the source failed after so much of the text after the definition's line was taken: whole lines, none of which fails, and then no whole line
-pub record IsCutUnder (definition : DefinitionView) (text left : List ℕ) : Type 0 where
-  pub lines : List (List ℕ)
-  pub each : All HasNoLineEnd lines
-  pub piece : List ℕ
-  pub unbroken : HasNoLineEnd piece
-  pub taken : text ≡ unlines lines ++ piece ++ left
-  pub later : (more : List (List ℕ)) (number : ℕ) (part : ScriptPart) → sessions_after definition 2 no_sessions (lines ++ more) ≡ Err (Script number part) → length lines + 2 ≤ number
+-- of these lines after the definition's none fails, whatever follows them
+abbrev pub NoneFailsUnder : DefinitionView → List (List ℕ) → Type 0
+NoneFailsUnder definition lines =
+    (more : List (List ℕ)) (number : ℕ) (part : ScriptPart) → sessions_after definition 2 no_sessions (lines ++ more) ≡ Err (Script number part) → length lines + 2 ≤ number
 
 -- a text is the line of this definition and then the rest, or ends with it
 abbrev pub IsDefinedBy : DefinitionView → List ℕ → List ℕ → Type 0

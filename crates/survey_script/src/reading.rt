@@ -4,8 +4,8 @@ ghost use Rattle.edges.specs.Faults.{CountsFaults, HasRisen};
 ghost use Rattle.edges.specs.Lines.{ahead};
 ghost use Rattle.edges.specs.Told.{IsAtEnd};
 ghost use Rattle.survey_script.specs.ScriptViews.{IsWholeScript, script_view};
-ghost use Rattle.survey_script.specs.Scripts.{FailsFirst, IsScript, IsStopOf, first_definition, lines_in, no_sessions, script_by, script_of, sessions_after};
-ghost use Rattle.survey_script.specs.Steps.{AreWithin, EndsWith, GoesOnBy, HasPiece, IsCutUnder, IsDefinedBy, LeavesRest};
+ghost use Rattle.survey_script.specs.Scripts.{IsCutAfter, IsScript, IsStopOf, NoneFailsBeforeCut, first_definition, lines_in, no_sessions, script_by, script_of, sessions_after};
+ghost use Rattle.survey_script.specs.Steps.{AreWithin, EndsWith, GoesOnBy, HasPiece, IsDefinedBy, LeavesRest, NoneFailsUnder};
 
 use crate::limits::MAX_SCRIPT_LINES;
 use crate::scripts::{Script, ScriptSession};
@@ -33,7 +33,7 @@ pub fn read_script<S: Source>(alloc: Global, source: &mut S) -> Result<Script, S
         → IsOk result ⊎ (result ≡ Err ScriptStop.NoMemory) }
 
     // A line that fails is reported before a fault of the source after it.
-    ensures first { result ≡ Err ScriptStop.ReadFault → FailsFirst (S.left source.old) (S.left source.new) }
+    ensures first { result ≡ Err ScriptStop.ReadFault → NoneFailsBeforeCut (S.left source.old) (S.left source.new) }
 {
     let mut lines = Lines::reserve(alloc, MAX_DEFINITION)?;
     read_lines(alloc, &mut lines, source)
@@ -52,7 +52,7 @@ fn read_lines<S: Source>(
     ensures whole { IfOk result IsWholeScript }
     ensures ended { OnOk result (IsAtEnd (S.left source.new)) }
     ensures faults { CountsFaults (result ≡ Err ScriptStop.ReadFault) (S.faults source.old) (S.faults source.new) }
-    ensures first { result ≡ Err ScriptStop.ReadFault → FailsFirst (ahead lines.old (S.left source.old)) (S.left source.new) }
+    ensures first { result ≡ Err ScriptStop.ReadFault → NoneFailsBeforeCut (ahead lines.old (S.left source.old)) (S.left source.new) }
 {
     match read_first(alloc, lines, source) {
         Ok(definition) => {
@@ -76,7 +76,7 @@ fn read_under<S: Source>(
     ensures whole { IfOk result IsWholeScript }
     ensures ended { OnOk result (IsAtEnd (S.left source.new)) }
     ensures faults { CountsFaults (result ≡ Err ScriptStop.ReadFault) (S.faults source.old) (S.faults source.new) }
-    ensures first { result ≡ Err ScriptStop.ReadFault → LeavesRest (ahead lines.old (S.left source.old)) (S.left source.new) (IsCutUnder definition) }
+    ensures first { result ≡ Err ScriptStop.ReadFault → LeavesRest (ahead lines.old (S.left source.old)) (S.left source.new) (IsCutAfter (NoneFailsUnder definition)) }
 {
     match read_sessions(alloc, &definition, lines, source) {
         Ok(sessions) => Ok(Script::of(definition, sessions)),
@@ -189,7 +189,7 @@ fn read_sessions<S: Source>(
     ensures whole { IfOk result (λ sessions. IsWholeScript (script_view definition.now sessions.items)) }
     ensures ended { OnOk result (IsAtEnd (S.left source.new)) }
     ensures faults { CountsFaults (result ≡ Err ScriptStop.ReadFault) (S.faults source.old) (S.faults source.new) }
-    ensures first { IfErr result (λ stop. stop ≡ ScriptStop.ReadFault → LeavesRest (ahead lines.old (S.left source.old)) (S.left source.new) (IsCutUnder definition.now)) }
+    ensures first { IfErr result (λ stop. stop ≡ ScriptStop.ReadFault → LeavesRest (ahead lines.old (S.left source.old)) (S.left source.new) (IsCutAfter (NoneFailsUnder definition.now))) }
 {
     let mut sessions = SessionsSoFar::new(alloc);
     let mut number = 2;

@@ -5,7 +5,7 @@ use Rattle.edges.specs.Told.{Appends, AppendsPrefix, IsAtEnd}
 use Rattle.survey_run.specs.RunViews.{RunView}
 use Rattle.survey_run.specs.Runs.{IsRun}
 use Rattle.survey_script.specs.ScriptViews.{IsWholeScript, ScriptView}
-use Rattle.survey_script.specs.Scripts.{FailsFirst, IsStopOf, script_of}
+use Rattle.survey_script.specs.Scripts.{IsStopOf, NoneFailsBeforeCut, script_of}
 use Rattle.survey_script.specs.declared.stops.ScriptStop.{ScriptStop}
 use Rattle.survey_script.specs.declared.stops.ScriptStop.TheVariants as script
 use Rattle.survey_server.specs.ScriptRuns.{IsScriptOutcome, RunsScript, stop_by}
@@ -18,7 +18,7 @@ IsReadFault result = result ≡ Err script.ReadFault
 
 -- no script was read, and nothing was written
 pub runs_none : (workers : ℕ) (told left now : Option (List ℕ)) (stop : ScriptStop) → IfSome told (λ text. IsStopOf (script_of text) stop)
-    → (IsReadFault (Err stop) → FailsFirst told left) → IsScriptOutcome workers told left now now (Err (stop_by stop))
+    → (IsReadFault (Err stop) → NoneFailsBeforeCut told left) → IsScriptOutcome workers told left now now (Err (stop_by stop))
 runs_none workers told left now (script.Definition fault) read first = (read, refl)
 runs_none workers told left now (script.Script line part) read first = (read, refl)
 runs_none workers told left now script.ReadFault read first = (first refl, refl)

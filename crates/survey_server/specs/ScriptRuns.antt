@@ -6,7 +6,7 @@ use Rattle.survey_run.specs.RunViews.{RunView}
 use Rattle.survey_run.specs.Runs.{IsRunBy, count_of}
 use Rattle.survey_run.specs.Sessions.{SessionRun}
 use Rattle.survey_script.specs.ScriptViews.{IsWholeScript, ScriptView}
-use Rattle.survey_script.specs.Scripts.{FailsFirst, script_of}
+use Rattle.survey_script.specs.Scripts.{NoneFailsBeforeCut, script_of}
 use Rattle.survey_script.specs.declared.stops.ScriptStop.{ScriptStop}
 use Rattle.survey_script.specs.declared.stops.ScriptStop.TheVariants as script
 use Rattle.survey_server.specs.declared.script_runs.Stop.{Stop}
@@ -46,7 +46,7 @@ IsScriptOutcome workers told left before now (Ok end) = RunsScript Appends worke
 IsScriptOutcome workers told left before now (Err (WriteFault end)) = RunsScript AppendsPrefix workers end told left before now
 IsScriptOutcome workers told left before now (Err (Definition fault)) = IsNoScript (script.Definition fault) told before now
 IsScriptOutcome workers told left before now (Err (Script line part)) = IsNoScript (script.Script line part) told before now
-IsScriptOutcome workers told left before now (Err ReadFault) = FailsFirst told left × (now ≡ before)
+IsScriptOutcome workers told left before now (Err ReadFault) = NoneFailsBeforeCut told left × (now ≡ before)
 IsScriptOutcome workers told left before now (Err NoMemory) = now ≡ before
 IsScriptOutcome workers told left before now (Err DoorFault) = ⊥
 
