@@ -30,6 +30,16 @@ TOOLS = ["nc", "curl", "git", "tmux"]
 
 SECONDS = 60
 
+# How each refusal begins: the source that writes it, where its word stands there, and the line that has the word.
+REFUSALS = [
+    ("survey_server/src/rank_texts.rt", r'b"((?:definition|rank) [a-z]+)', "%s"),
+    ("survey_server/src/commands.rt", r'ScriptPart::\w+ => b"(\w+)"', "script LINE %s"),
+    ("result_file/src/verdicts.rt", r'Part::\w+ => b"(\w+)"', "invalid LINE %s"),
+    ("survey_server/src/plain_commands.rt", r'b"(unfinished) "', "%s"),
+    ("survey_server/src/plain_commands.rt", r'b"(usage:) ', "%s"),
+    ("json_forms/src/replies.rt", r'Word::\w+ => "(\w+)"', '{"refused":"%s"}'),
+]
+
 
 def commands_of(text):
     """The commands of a document, each with what it writes."""
@@ -55,6 +65,7 @@ def free_port():
         with socket.socket() as probe, contextlib.suppress(OSError):
             probe.bind(("127.0.0.1", port))
             return port
+    sys.exit("no port below 32,000 is free")
 
 
 def end(group):
@@ -107,34 +118,34 @@ def check(document, tally):
                 tally["failed"] += 1
 
 
-def refusals():
-    """How each refusal begins, by the sources that write them."""
-    def found(file, pattern, before="", after=""):
-        return [before + word + after for word in re.findall(pattern, (ROOT / "crates" / file).read_text())]
-    return [
-        *found("survey_server/src/rank_texts.rt", r'b"((?:definition|rank) [a-z]+)'),
-        *found("survey_server/src/commands.rt", r'ScriptPart::\w+ => b"(\w+)"', "script LINE "),
-        *found("result_file/src/verdicts.rt", r'Part::\w+ => b"(\w+)"', "invalid LINE "),
-        *found("survey_server/src/plain_commands.rt", r'b"(unfinished) "'),
-        *found("survey_server/src/plain_commands.rt", r'b"(usage:) '),
-        *found("json_forms/src/replies.rt", r'Word::\w+ => "(\w+)"', '{"refused":"', '"}'),
-    ]
-
-
 def check_refusals(tally):
     rows = re.findall(r"^\| `([^`]*)`", (ROOT / "docs/TROUBLESHOOTING.md").read_text(), re.MULTILINE)
-    for refusal in refusals():
-        count = sum(row == refusal or row.startswith(refusal + " ") for row in rows)
-        tally["passed" if count == 1 else "failed"] += 1
-        if count != 1:
-            print(f"docs/TROUBLESHOOTING.md has {count} rows for {refusal}")
+    for file, pattern, line in REFUSALS:
+        words = re.findall(pattern, (ROOT / "crates" / file).read_text())
+        if not words:
+            print(f"crates/{file} has nothing of the form {pattern}")
+            tally["failed"] += 1
+        for refusal in (line % word for word in words):
+            count = sum(row == refusal or row.startswith(refusal + " ") for row in rows)
+            tally["passed" if count == 1 else "failed"] += 1
+            if count != 1:
+                print(f"docs/TROUBLESHOOTING.md has {count} rows for {refusal}")
+
+
+def build():
+    """Has the program proved and built, which tells of itself on standard error."""
+    with open(ROOT / "examples/claims.txt", "rb") as claims:
+        built = subprocess.run([ROOT / "paprika", "check"], stdin=claims, stdout=subprocess.PIPE, text=True)
+    if built.returncode:
+        sys.exit(f"paprika check ended with status {built.returncode}: {built.stdout}")
 
 
 def main():
-    documents = [pathlib.Path(name) for name in sys.argv[1:]] or [ROOT / "README.md", *sorted((ROOT / "docs").glob("*.md")), *sorted((ROOT / "examples").glob("*/README.md"))]
+    ours = [ROOT / "README.md", *sorted((ROOT / "docs").glob("*.md")), *sorted((ROOT / "examples").glob("*/README.md"))]
+    documents = [pathlib.Path(name) for name in sys.argv[1:]] or ours
     tally = {"passed": 0, "failed": 0, "skipped": 0}
     if not PROGRAM.exists():
-        subprocess.run([ROOT / "paprika", "check"], stdin=subprocess.DEVNULL, stdout=subprocess.DEVNULL)
+        build()
     for document in documents:
         check(document, tally)
     check_refusals(tally)
@@ -142,4 +153,5 @@ def main():
     sys.exit(bool(tally["failed"]))
 
 
-main()
+if __name__ == "__main__":
+    main()

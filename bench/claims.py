@@ -1,3 +1,4 @@
+#!/usr/bin/env python3
 """Writes a claims file over 24 criteria of two levels to standard output.
 
 usage: claims.py answers N          N answer lines
@@ -54,4 +55,5 @@ def main():
     print("\n".join(["paprika claims 1", f"model {levels} degree 2"] + lines + ["end"]))
 
 
-main()
+if __name__ == "__main__":
+    main()

@@ -15,7 +15,9 @@ expect() { # the status and the text that are wanted, the input, and the words
     fi
 }
 
-usage='usage: paprika check | migrate | rank | sample SEED SHAPE | run [--eliminators N] [--sample SEED --shape SHAPE] | serve PORT [--eliminators N] [--connections K]'
+usage='usage: paprika check | migrate | rank | sample SEED SHAPE | run [--eliminators N] [--sample SEED --shape SHAPE]'
+usage="$usage | serve PORT [--eliminators N] [--connections K]"
+sample='sample 1 2x2x2:3 classes 6 questions 4 left 3 right 1 equal 0 eliminated 2 trace 95431 complete'
 expect 0 'valid' examples/claims.txt check
 expect 0 'valid complete' examples/result.txt check
 expect 0 'valid' examples/withdrawn.txt check
@@ -32,11 +34,12 @@ expect 0 "$(cat examples/withdrawn.txt)" examples/withdrawn.txt migrate
 expect 1 'invalid 1 form' examples/claims.txt migrate
 expect 0 "$(printf 'rank,name,value\n1,School,5\n2,Bridge,3\n2,Clinic,3')" examples/projects.txt rank
 expect 1 'definition form' examples/claims.txt rank
-expect 0 "$(printf '%s\n' '{"welcome":{"classes":15,"desk":1}}' '{"question":{"left":[2,1,0],"number":1,"right":[1,2,0]}}' '{"accepted":1}' \
+expect 0 "$(printf '%s\n' '{"welcome":{"classes":15,"desk":1}}' \
+    '{"question":{"left":[2,1,0],"number":1,"right":[1,2,0]}}' '{"accepted":1}' \
     '{"question":{"left":[2,1,0],"number":2,"right":[1,3,0]}}' '{"bye":true}')" examples/survey.txt run
 expect 1 'definition form' examples/claims.txt run
-expect 0 'sample 1 2x2x2:3 classes 6 questions 4 left 3 right 1 equal 0 eliminated 2 trace 95431 complete' /dev/null sample 1 2x2x2:3
-expect 0 'sample 1 2x2x2:3 classes 6 questions 4 left 3 right 1 equal 0 eliminated 2 trace 95431 complete' /dev/null run --sample 1 --shape 2x2x2:3
+expect 0 "$sample" /dev/null sample 1 2x2x2:3
+expect 0 "$sample" /dev/null run --sample 1 --shape 2x2x2:3
 expect 0 'sample 1 3x2:2 classes 3 questions 2 left 2 right 0 equal 0 eliminated 1 trace 102 complete' /dev/null sample 1 3x2:2
 expect 1 'definition classes 80730' /dev/null sample 1 "$(printf '2x%.0s' $(seq 23))2:4"
 expect 1 'definition increments 25' /dev/null sample 1 13x14:2

@@ -5,15 +5,18 @@ whose survey has three criteria of two levels.
 usage: format_lines.py
 """
 import json
-import pathlib
 import re
 import subprocess
 import sys
 
-ROOT = pathlib.Path(__file__).resolve().parent.parent
+from common import PAPRIKA, ROOT, program
 
-# What a session says of no line, since only a server does.
-OF_A_SERVER = ["welcome", "hello", "name", "code", "desk"]
+# What a session neither takes nor says, since only a server does: a hello, its welcome, and what refuses it.
+OF_A_SERVER = re.compile(
+    r'\{"hello":\{"code":"[^"]*","desk":\d+,"name":"[^"]*"\}\}'
+    r'|\{"welcome":\{"classes":\d+,"desk":\d+\}\}'
+    r'|\{"refused":"(hello|name|code|desk)"\}'
+)
 
 
 def ask(word):
@@ -38,23 +41,17 @@ SESSIONS = [
 
 
 def talk(lines):
-    program = ROOT / "crates/session_bench/out/session_bench"
     said = "".join(line + "\n" for line in lines).encode()
-    return subprocess.run([program, "talk"], input=said, stdout=subprocess.PIPE, check=True).stdout.decode().splitlines()
+    return subprocess.run([program("session_bench"), "talk"], input=said, stdout=subprocess.PIPE, check=True).stdout.decode().splitlines()
 
 
 def is_definition(line):
     """Whether `rank` finds no fault in it: then it reads on, and finds no values."""
-    program = ROOT / "crates/paprika/out/paprika"
-    return subprocess.run([program, "rank"], input=line.encode(), stdout=subprocess.PIPE).stdout == b"rank values\n"
+    return subprocess.run([PAPRIKA, "rank"], input=line.encode(), stdout=subprocess.PIPE).stdout == b"rank values\n"
 
 
 def is_message(line):
     return talk([line]) != ['{"refused":"message"}']
-
-
-def is_of_a_server(line):
-    return any(word in json.dumps(json.loads(line)) for word in OF_A_SERVER)
 
 
 def main():
@@ -65,7 +62,7 @@ def main():
     for line in shown:
         if line in said or is_message(line) or is_definition(line):
             passed += 1
-        elif is_of_a_server(line):
+        elif OF_A_SERVER.fullmatch(line):
             left += 1
         else:
             failed += 1
@@ -74,4 +71,5 @@ def main():
     sys.exit(bool(failed))
 
 
-main()
+if __name__ == "__main__":
+    main()

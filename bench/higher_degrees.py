@@ -10,7 +10,8 @@ import random
 import statistics
 import sys
 
-from oracle import Model, Wrong, dot
+from common import side_of
+from oracle import Model, Wrong
 from survey_oracle import Survey
 
 SHAPES = [(3, 3, 3), (4, 4, 4), (2, 2, 2, 2), (3, 3, 3, 3), (4, 4, 4, 4), (3, 3, 3, 3, 3), (3, 3, 3, 3, 3, 3), (4, 4, 4, 4, 4, 4)]
@@ -33,8 +34,7 @@ def answered(model, draws):
     """A survey that hidden values answered."""
     survey, values = Survey(model), [draws.randint(1, 1000) for _ in model.increments]
     while "question" in (reply := survey.next(None)):
-        lead = dot(values, model.gain(model.classes[survey.asked[-1] - 1], "left"))
-        survey.answer(None, reply["question"]["number"], "equal" if lead == 0 else "left" if lead > 0 else "right")
+        survey.answer(None, reply["question"]["number"], side_of(model, values, model.classes[survey.asked[-1] - 1]))
     return survey
 
 
@@ -44,7 +44,8 @@ def ranked_share(survey, pairs, draws):
 
 
 def main(seeds=30):
-    print("| Levels | Questions of degree 2, median | Ranked of degree 3: median | 10th percentile | 90th | Of degree 4: median | 10th percentile | 90th |")
+    print("| Levels | Questions of degree 2, median | Ranked of degree 3: median | 10th percentile | 90th"
+          " | Of degree 4: median | 10th percentile | 90th |")
     print("|" + "---|" * 8)
     for levels in SHAPES:
         model, all_degrees = Model(levels, 2), largest(levels)

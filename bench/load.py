@@ -9,6 +9,7 @@ usage: load.py surveys [SEED]    16 respondents with 4 desks each answer by hidd
        load.py memory            the memory of 16 surveys, before the first connection and after all were answered from 64 desks
 """
 import contextlib
+import functools
 import heapq
 import itertools
 import json
@@ -18,26 +19,24 @@ import pathlib
 import random
 import selectors
 import socket
-import struct
 import subprocess
 import sys
 import threading
 import time
 
-from oracle import Model, dot
+from common import HOST, PAPRIKA, Connection, Unexpected, expect, first_connection, serving, side_of, want
+from oracle import Model
 
-PROGRAM = pathlib.Path(__file__).resolve().parent.parent / "crates/paprika/out/paprika"
-HOST = "127.0.0.1"
 RESPONDENTS, DESKS, PROCESSES = 16, 4, 4
 HELD = ((3, 3, 3, 3, 3), 2)  # the model of `surveys`: 90 classes
 LARGEST = ((2, 2, 2, 2, 3, 3, 5, 5, 5), 3)
 SPEED = [((4,) * 8, 2), ((4,) * 6, 3)]  # 1,008 and 13,500 classes
 MOST_MESSAGES = 60_000  # of a session; a server takes 65,536
-MODELS = {}
 
 
+@functools.cache
 def model_of(levels, degree):
-    return MODELS.setdefault((levels, degree), Model(levels, degree))
+    return Model(levels, degree)
 
 
 def line_of(message):
@@ -59,11 +58,6 @@ def hidden_values(levels, seed):
     return [draws.randint(1, 1000) for count in levels for _ in range(1, count)]
 
 
-def side_of(model, values, pair):
-    lead = dot(values, model.gain(pair, "left"))
-    return "equal" if lead == 0 else "left" if lead > 0 else "right"
-
-
 def answer_line(model, values, question):
     side = side_of(model, values, (question["left"], question["right"]))
     return line_of({"answer": {"question": question["number"], "side": side}})
@@ -81,35 +75,18 @@ def free_port():
 def server(levels, degree, eliminators, **settings):
     """A server with the model, as its port and its process. Settings are variables of its environment."""
     port = free_port()
-    words = [PROGRAM, "serve", str(port), "--eliminators", str(eliminators)]
-    process = subprocess.Popen(words, stdin=subprocess.PIPE, stdout=subprocess.PIPE, env=os.environ | settings)
-    process.stdin.write(definition_of(levels, degree))
-    process.stdin.close()
-    try:
-        while True:
-            assert process.poll() is None, f"the server ended with status {process.poll()}"
-            with contextlib.suppress(OSError):
-                socket.create_connection((HOST, port)).close()
-                break
-            time.sleep(0.01)
+    with serving(port, definition_of(levels, degree), "--eliminators", str(eliminators), **settings) as process:
+        first_connection(process, port).close()
         yield port, process
-        assert process.poll() is None, f"the server ended with status {process.poll()}"
-    finally:
-        process.terminate()
-        process.wait()
+        expect("status of the server", process.poll(), None)
 
 
-class Session:
+class Session(Connection):
     """A session at a desk; it waits for each reply."""
 
     def __init__(self, port, respondent, desk):
-        self.socket = socket.create_connection((HOST, port))
-        self.lines = self.socket.makefile("rb")
-        assert "welcome" in self.say(hello_of(respondent, desk))
-
-    def say(self, line):
-        self.socket.sendall(line)
-        return json.loads(self.lines.readline())
+        super().__init__(port)
+        expect("reply to a hello", list(self.say(hello_of(respondent, desk))), ["welcome"])
 
     def ask(self, word):
         return self.say(line_of({"ask": word}))
@@ -117,13 +94,6 @@ class Session:
     def result(self):
         self.socket.sendall(line_of({"ask": "result"}))
         return b"".join([*iter(self.lines.readline, b"end\n"), b"end\n"])
-
-    def vanish(self, last):
-        """Ends the connection after these bytes at once, by a reset, with replies on their way."""
-        self.socket.sendall(last)
-        self.socket.setsockopt(socket.SOL_SOCKET, socket.SO_LINGER, struct.pack("ii", 1, 0))
-        self.lines.close()
-        self.socket.close()
 
 
 def waiting_in(result):
@@ -153,18 +123,18 @@ def hold_desk(port, respondent, desk, model, values, rng, tally):
             session = Session(port, respondent, desk)
             due, tally["vanished"] = waiting_in(session.result()), tally["vanished"] + 1
         elif manners < 0.06:
-            assert session.say(b"no message\n") == {"refused": "message"}
+            expect("reply to no message", session.say(b"no message\n"), {"refused": "message"})
         elif manners < 0.08:
             if "withdrawn" in session.ask("withdraw"):
                 due, tally["withdrawn"] = waiting_in(session.result()), tally["withdrawn"] + 1
         if due:
             reply = session.say(answer_line(model, values, due.pop(0)))
-            assert reply.keys() <= {"accepted", "closed", "implied"}, reply
+            want(reply.keys() <= {"accepted", "closed", "implied"}, f"reply to an answer: {reply}")
             tally["accepted"] += "accepted" in reply
             continue
         reply = session.ask("next")
         if "complete" in reply:
-            assert session.ask("bye") == {"bye": True}
+            expect("reply to a bye", session.ask("bye"), {"bye": True})
             return
         due = [reply["question"]] if "question" in reply else waiting_in(session.result())
 
@@ -178,7 +148,7 @@ def hold_surveys(work):
         rng = random.Random(f"{seed} {respondent} {desk}")
         try:
             hold_desk(port, respondent, desk, model, hidden_values(HELD[0], respondent + 100 * seed), rng, tally)
-        except (AssertionError, OSError, ValueError) as fault:
+        except (Unexpected, OSError, ValueError) as fault:
             faults.append(f"respondent {respondent} desk {desk}: {fault!r}")
 
     threads = [threading.Thread(target=run, args=(r, d)) for r in respondents for d in range(1, DESKS + 1)]
@@ -205,7 +175,7 @@ def survey_faults(port, respondent, seed):
     """What is wrong with a respondent's survey at its end."""
     session = Session(port, respondent, 1)
     result, vector = session.result(), [int(value) for value in session.ask("values")["values"]["vector"]]
-    verdict = subprocess.run([PROGRAM, "check"], input=result, stdout=subprocess.PIPE).stdout
+    verdict = subprocess.run([PAPRIKA, "check"], input=result, stdout=subprocess.PIPE).stdout
     if verdict != b"valid complete\n":
         yield f"respondent {respondent}: {verdict}"
     model, values = model_of(*HELD), hidden_values(HELD[0], respondent + 100 * seed)
@@ -221,7 +191,8 @@ def surveys(seed=1):
         ends = pool.map(hold_surveys, work)
         faults = [fault for _, found in ends for fault in found]
         faults += [fault for respondent in range(RESPONDENTS) for fault in survey_faults(port, respondent, seed)]
-        assert all(not client.close() for client in silent)
+        for client in silent:
+            client.close()
     print(*faults, sep="\n", end="\n" if faults else "")
     counts = {word: sum(tally[word] for tally, _ in ends) for word in ends[0][0]}
     print(f"{RESPONDENTS} surveys from {RESPONDENTS * DESKS} desks, {counts}: {len(faults)} faults")
@@ -232,7 +203,7 @@ def surveys(seed=1):
 
 
 class Answering:
-    """What a desk says, up to the end of its survey. It thinks before each answer, for so long on average."""
+    """What a desk says, up to the end of its survey. It thinks before each answer, on average for the seconds given."""
 
     def __init__(self, model, values, respondent, desk, thinks):
         self.model, self.values, self.first, self.kind = model, values, hello_of(respondent, desk), None
@@ -250,10 +221,12 @@ class Answering:
 
 
 class Repeating:
-    """The same lines so many times, each time when all their replies have come."""
+    """The same lines again and again, each time when all their replies have come; after a hello, if there is one."""
 
     def __init__(self, message, count, hello):
-        self.message, self.left, self.first, self.kind = message, count, hello or message, None if hello else "reply"
+        self.message, self.left = message, count
+        self.first = hello or message
+        self.kind = None if hello else "reply"
 
     def pause(self):
         return 0
@@ -263,46 +236,53 @@ class Repeating:
         return self.message if self.left > 0 else None
 
 
+class Client:
+    """A connection for a talk, which sends without waiting for replies."""
+
+    def __init__(self, port, talk):
+        self.talk, self.socket = talk, socket.create_connection((HOST, port))
+        self.socket.setsockopt(socket.IPPROTO_TCP, socket.TCP_NODELAY, 1)
+        self.say(talk.first)
+
+    def say(self, message):
+        """Sends a message, and notes when, and how many lines its replies have."""
+        self.got, self.sent, self.lines = b"", time.perf_counter(), message.count(b"\n")
+        self.socket.sendall(message)
+
+    def has_all(self):
+        """Whether all replies have come, with what comes now."""
+        more = self.socket.recv(1 << 16)
+        want(more, "the connection ended")
+        self.got += more
+        return self.got.count(b"\n") >= self.lines
+
+
 def drive(port, talks):
     """Has all talks at once; the times of each kind of message, and when the first began and the last ended."""
     times, ready, paused, live = {}, selectors.DefaultSelector(), [], len(talks)
-    for number, talk in enumerate(talks):
-        client = socket.create_connection((HOST, port))
-        client.setsockopt(socket.IPPROTO_TCP, socket.TCP_NODELAY, 1)
-        client.sendall(talk.first)
-        ready.register(client, selectors.EVENT_READ, [talk, b"", time.perf_counter(), talk.first.count(b"\n"), number])
-    began = time.perf_counter()
+    for client in [Client(port, talk) for talk in talks]:
+        ready.register(client.socket, selectors.EVENT_READ, client)
+    began, turns = time.perf_counter(), itertools.count()
     while live:
         while paused and paused[0][0] <= time.perf_counter():
-            _, _, client, data, message = heapq.heappop(paused)
-            say(client, data, message)
+            _, _, client, message = heapq.heappop(paused)
+            client.say(message)
         for key, _ in ready.select(max(0, paused[0][0] - time.perf_counter()) if paused else None):
-            client, data = key.fileobj, key.data
-            talk, got, sent, lines, number = data
-            more = client.recv(1 << 16)
-            assert more, "the connection ended"
-            got += more
-            if got.count(b"\n") < lines:
-                data[1] = got
+            client, talk = key.data, key.data.talk
+            if not client.has_all():
                 continue
             if talk.kind:
-                times.setdefault(talk.kind, []).append(time.perf_counter() - sent)
-            message = talk.after(got)
+                times.setdefault(talk.kind, []).append(time.perf_counter() - client.sent)
+            message = talk.after(client.got)
             if message is None:
-                ready.unregister(client)
-                client.close()
+                ready.unregister(client.socket)
+                client.socket.close()
                 live -= 1
             elif pause := talk.pause():
-                heapq.heappush(paused, (time.perf_counter() + pause, number, client, data, message))
+                heapq.heappush(paused, (time.perf_counter() + pause, next(turns), client, message))
             else:
-                say(client, data, message)
+                client.say(message)
     return times, began, time.perf_counter()
-
-
-def say(client, data, message):
-    """Sends a message, and notes when and how many lines will come."""
-    data[1:4] = [b"", time.perf_counter(), message.count(b"\n")]
-    client.sendall(message)
 
 
 def drive_share(work):
@@ -310,14 +290,18 @@ def drive_share(work):
     return drive(port, [make(place, *arguments) for place in share])
 
 
+def place_of(place, desks):
+    """The respondent and the desk of a place. Up to 16 desks are those of as many respondents."""
+    return (place, 1) if desks <= RESPONDENTS else (place // DESKS, place % DESKS + 1)
+
+
 def answering(place, desks, shape, seed, thinks):
-    respondent, desk = (place, 1) if desks <= RESPONDENTS else divmod(place, DESKS)
-    return Answering(model_of(*shape), hidden_values(shape[0], seed * 100 + respondent), respondent, desk + (desks > RESPONDENTS), thinks)
+    respondent, desk = place_of(place, desks)
+    return Answering(model_of(*shape), hidden_values(shape[0], seed * 100 + respondent), respondent, desk, thinks)
 
 
 def repeating(place, desks, message, count, greets):
-    respondent, desk = (place, 1) if desks <= RESPONDENTS else divmod(place, DESKS)
-    return Repeating(message, count, hello_of(respondent, desk + (desks > RESPONDENTS)) if greets else None)
+    return Repeating(message, count, hello_of(*place_of(place, desks)) if greets else None)
 
 
 def measured(port, connections, make, arguments):
@@ -365,7 +349,7 @@ def echo_server():
 
 
 def survey_speed(runs, thinks, shapes=SPEED, numbers=(1, RESPONDENTS, RESPONDENTS * DESKS)):
-    """Of these numbers of desks, which think for so many seconds before each answer."""
+    """Of these numbers of desks, which think before each answer, on average for the seconds given."""
     row("Classes", "Eliminators", "Desks", "Replies a second", "`next`: 50th", "99th", "longest", "`answer`: 50th", "99th", "longest")
     row(*["---"] * 10)
     for shape, eliminators, desks in itertools.product(shapes, (0, 2), numbers):
@@ -415,7 +399,8 @@ def memory_of(process):
 
 
 def memory():
-    row("Classes", "Eliminators", "Listens after", "Asked for then", "Asked for then in one arena", "In use then", "In use after all surveys")
+    row("Classes", "Eliminators", "Listens after", "Asked for then", "Asked for then in one arena", "In use then",
+        "In use after all surveys")
     row(*["---"] * 7)
     for shape, eliminators in [(HELD, 2), (SPEED[0], 2), (SPEED[1], 2), (LARGEST, 16)]:
         with server(*shape, eliminators, MALLOC_ARENA_MAX="1") as (port, process):
@@ -427,6 +412,10 @@ def memory():
             row(f"{len(model_of(*shape).classes):,}", eliminators, listens, asked, in_one, used, memory_of(process)[0])
 
 
-if __name__ == "__main__":
+def main():
     modes = {"surveys": surveys, "speed": speed, "memory": memory}
     sys.exit(modes[sys.argv[1]](*map(int, sys.argv[2:])))
+
+
+if __name__ == "__main__":
+    main()

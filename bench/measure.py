@@ -1,3 +1,4 @@
+#!/usr/bin/env python3
 """Runs a command on a file several times and prints its best time and its peak memory.
 
 usage: measure.py FILE COMMAND..
@@ -36,4 +37,5 @@ def main():
     print(f"{best * 1000:9.1f} ms {peak_memory(path, command) / 1024:8.1f} MiB  {runs[-1][1]}")
 
 
-main()
+if __name__ == "__main__":
+    main()

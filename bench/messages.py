@@ -5,14 +5,14 @@ usage: messages.py COUNT
 
 Runs sessions of the proved `session_bench talk`, each with COUNT lines: messages, and messages with a few changes at random.
 """
-import pathlib
 import random
 import subprocess
 import sys
 
+from common import expect, program
 from rankings import changed_line, has_members, value_of
 
-PROGRAM = pathlib.Path(__file__).resolve().parent.parent / "crates/session_bench/out/session_bench"
+PROGRAM = program("session_bench")
 
 SESSIONS = 20
 
@@ -63,7 +63,8 @@ def main():
         lines = [line for line in lines_of(count, chance) if line.strip() not in (b'{"ask":"bye"}', b'{"ask":"result"}')]
         said = b"\n".join([*lines, b'{"ask":"bye"}', b""])
         replies = subprocess.run([PROGRAM, "talk"], input=said, stdout=subprocess.PIPE, check=True).stdout.splitlines()
-        assert len(replies) == len(lines) + 1 and replies[-1] == b'{"bye":true}'
+        expect("number of replies", len(replies), len(lines) + 1)
+        expect("last reply", replies[-1], b'{"bye":true}')
         for line, reply in zip(lines, replies):
             kind, word = message_of(line), reply.split(b'"')[1].decode()
             kinds[kind] = kinds.get(kind, 0) + 1
@@ -74,4 +75,5 @@ def main():
     sys.exit(bool(differing))
 
 
-main()
+if __name__ == "__main__":
+    main()

@@ -8,8 +8,7 @@ import subprocess
 import sys
 
 import oracle
-
-PROGRAM = pathlib.Path(__file__).resolve().parent.parent / "crates/paprika/out/paprika"
+from common import PAPRIKA
 
 
 def variants(data):
@@ -31,7 +30,7 @@ def main():
     for name in sys.argv[1:]:
         for change, data in variants(pathlib.Path(name).read_bytes()):
             wanted = oracle.migrated(data)
-            run = subprocess.run([PROGRAM, "migrate"], input=data, stdout=subprocess.PIPE)
+            run = subprocess.run([PAPRIKA, "migrate"], input=data, stdout=subprocess.PIPE)
             is_copy = wanted.startswith(b"paprika result 2")
             compared, copied = compared + 1, copied + is_copy
             if (run.stdout, run.returncode) != (wanted, 0 if is_copy else 1):
@@ -41,4 +40,5 @@ def main():
     sys.exit(bool(differing))
 
 
-main()
+if __name__ == "__main__":
+    main()

@@ -3,20 +3,19 @@
 
 usage: question_counts.py [SEEDS]
 """
-import pathlib
 import statistics
 import subprocess
 import sys
 from concurrent.futures import ThreadPoolExecutor
 
-PROGRAM = pathlib.Path(__file__).resolve().parent.parent / "crates/paprika/out/paprika"
+from common import PAPRIKA
 
 LEVELS = ["3x3x3", "2x2x2x2", "3x3x3x3", "4x4x4x4", "3x3x3x3x3", "3x3x3x3x3x3", "4x4x4x4x4x4", "3x3x3x3x3x3x3x3"]
 
 
 def sample(seed, shape):
     """Questions and classes of one survey."""
-    line = subprocess.run([PROGRAM, "sample", str(seed), shape], stdout=subprocess.PIPE, check=True).stdout.decode().split()
+    line = subprocess.run([PAPRIKA, "sample", str(seed), shape], stdout=subprocess.PIPE, check=True).stdout.decode().split()
     return int(line[line.index("questions") + 1]), int(line[line.index("classes") + 1])
 
 
@@ -27,7 +26,8 @@ def row(levels, degree, seeds):
     questions, classes = [run[0] for run in runs], runs[0][1]
     tenths = statistics.quantiles(questions, n=10)
     median = statistics.median(questions)
-    return f"| {levels} | {degree} | {classes:,} | {median:.0f} | {tenths[0]:.0f} | {tenths[8]:.0f} | {100 * (1 - median / classes):.0f} in 100 |"
+    counts = " | ".join(f"{count:.0f}" for count in (median, tenths[0], tenths[8]))
+    return f"| {levels} | {degree} | {classes:,} | {counts} | {100 * (1 - median / classes):.0f} in 100 |"
 
 
 def main():
@@ -39,4 +39,5 @@ def main():
             print(row(levels, degree, seeds), flush=True)
 
 
-main()
+if __name__ == "__main__":
+    main()

@@ -1,13 +1,13 @@
 #!/usr/bin/env python3
-"""Times `paprika rank` on a table of 1 MB beside the same in Python, in processor time: the best of nine runs of each, in turns."""
-import pathlib
+"""Times `paprika rank` on a table of 1 MB beside the same in Python, in processor time: the best of nine runs of each, in turns.
+
+usage: ranking_time.py
+"""
 import random
 import resource
 import subprocess
 
-ROOT = pathlib.Path(__file__).resolve().parent.parent
-
-PROGRAM = ROOT / "crates/paprika/out/paprika"
+from common import PAPRIKA, ROOT, want
 
 LONGEST_TABLE = 1_048_576
 
@@ -55,10 +55,11 @@ def run(command, data):
 
 def main():
     data, count = table()
-    runs = [(run([PROGRAM, "rank"], data), run(["python3", "-c", IN_PYTHON], data)) for _ in range(9)]
+    runs = [(run([PAPRIKA, "rank"], data), run(["python3", "-c", IN_PYTHON], data)) for _ in range(9)]
     (ours, written), (theirs, same) = (min(column) for column in zip(*runs))
-    assert written == same
+    want(written == same, "paprika and Python write different rankings")
     print(f"{count} alternatives: paprika {ours * 1000:.1f} ms, Python {theirs * 1000:.1f} ms")
 
 
-main()
+if __name__ == "__main__":
+    main()

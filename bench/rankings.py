@@ -13,7 +13,7 @@ import random
 import subprocess
 import sys
 
-PROGRAM = pathlib.Path(__file__).resolve().parent.parent / "crates/paprika/out/paprika"
+from common import PAPRIKA, class_count
 
 LONGEST_DEFINITION, LONGEST_VALUES, LONGEST_TABLE = 65_536, 4_096, 1_048_576
 DEEPEST = 127
@@ -112,15 +112,6 @@ def has_form(value):
             has_members(one, "name", "code") and are(str, list(one.values())) for one in value["respondents"]
         )
     )
-
-
-def class_count(levels, degree):
-    """The number of classes: ways to choose criteria, times ways to differ on each, times ways to point."""
-    ways = [1] + [0] * len(levels)
-    for count in levels:
-        for chosen in range(len(levels), 0, -1):
-            ways[chosen] += ways[chosen - 1] * (count * (count - 1) // 2)
-    return sum((2 ** (chosen - 1) - 1) * ways[chosen] for chosen in range(2, degree + 1))
 
 
 def is_name(text):
@@ -257,7 +248,7 @@ def main():
         base = pathlib.Path(name).read_bytes()
         for data in [base, *(changed(base, chance) for _ in range(count))]:
             wanted, status = ranking_of(data)
-            run = subprocess.run([PROGRAM, "rank"], input=data, stdout=subprocess.PIPE)
+            run = subprocess.run([PAPRIKA, "rank"], input=data, stdout=subprocess.PIPE)
             compared, ranked = compared + 1, ranked + (status == 0)
             if status:
                 word = " ".join(wanted.decode().split()[:2])

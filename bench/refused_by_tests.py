@@ -15,9 +15,9 @@ import subprocess
 import sys
 import tempfile
 
-TOP = pathlib.Path(__file__).resolve().parent.parent
+from common import ROOT
 
-PATCHES = TOP / "bench/refused_by_tests"
+PATCHES = ROOT / "bench/refused_by_tests"
 
 AS_IT_IS = "as_it_is"
 
@@ -48,8 +48,8 @@ ROWS = [
 
 def copy_sources(folder):
     for name in ("crates.txt", "HANDLES"):
-        shutil.copy(TOP / name, folder)
-    shutil.copytree(TOP / "crates", folder / "crates", ignore=shutil.ignore_patterns("out"))
+        shutil.copy(ROOT / name, folder)
+    shutil.copytree(ROOT / "crates", folder / "crates", ignore=shutil.ignore_patterns("out"))
 
 
 def put_on(patch, folder):

@@ -1,5 +1,5 @@
 #!/usr/bin/env python3
-"""Writes a legal and complete result file with about so many events to standard output.
+"""Writes a legal and complete result file to standard output, with about as many events as EVENTS says.
 
 usage: results.py LEVELS DEGREE EVENTS        as in: results.py 4,4,4,4,4,4 3 30000
 
@@ -234,4 +234,5 @@ def main():
     print("\n".join(heading + survey.lines + ["end"]))
 
 
-main()
+if __name__ == "__main__":
+    main()

@@ -5,14 +5,11 @@ time that passes, and the processor time.
 usage: sample_times.py [RUNS [PROGRAM..]]     PROGRAM, where several are compared, is one of them each
 """
 import os
-import pathlib
 import statistics
 import sys
 import time
 
-ROOT = pathlib.Path(__file__).resolve().parent.parent
-
-PROGRAM = ROOT / "crates/paprika/out/paprika"
+from common import PAPRIKA
 
 SHAPES = ["4x4x4x4x4x4:2", "4x4x4x4x4x4x4x4:2", "4x4x4x4x4x4:3"]
 
@@ -37,7 +34,7 @@ def run(program, words):
 
 def main():
     runs = int(sys.argv[1]) if len(sys.argv) > 1 else 7
-    programs = sys.argv[2:] or [PROGRAM]
+    programs = sys.argv[2:] or [PAPRIKA]
     for shape in SHAPES:
         print(shape)
         found = {}
@@ -52,4 +49,5 @@ def main():
                   f" processor {statistics.median(used) * 1000:7.1f} ms{which}")
 
 
-main()
+if __name__ == "__main__":
+    main()

@@ -3,39 +3,19 @@
 
 usage: samples.py COUNT [SEED]
 
-Each of COUNT seeds and shapes at random gives one line. Here the generator is written anew, and the survey is that of
+Each of COUNT seeds and shapes at random gives one line. The generator is written anew in common.py, and the survey is that of
 survey_oracle.py, which shares no code with the program; a shape that makes no model has the line of its first fault.
 """
-import math
-import pathlib
 import random
 import subprocess
 import sys
 
-from oracle import MOST_CLASSES, Model, dot
+from common import PAPRIKA, class_count, expect, generated_values, side_of
+from oracle import MOST_CLASSES, Model
 from survey_oracle import Survey
-
-PROGRAM = pathlib.Path(__file__).resolve().parent.parent / "crates/paprika/out/paprika"
 
 SIDES = ("left", "right", "equal")
 FEW_CLASSES = 150
-
-
-def hidden_values(seed, count):
-    values = []
-    for _ in range(count):
-        seed = (1103515245 * seed + 12345) % 2**31
-        values.append(1 + seed // 65536 % 1000)
-    return values
-
-
-def class_count(levels, degree):
-    """By the elementary symmetric sums of the numbers of two levels."""
-    sums = [1] + [0] * len(levels)
-    for n in levels:
-        for d in range(len(levels), 0, -1):
-            sums[d] += math.comb(n, 2) * sums[d - 1]
-    return sum((2 ** (d - 1) - 1) * sums[d] for d in range(2, degree + 1))
 
 
 def fault_of(levels, degree):
@@ -54,16 +34,15 @@ def fault_of(levels, degree):
 def sampled(seed, levels, degree):
     """The counts of a sample survey, in the order of its line."""
     model = Model(tuple(levels), degree)
-    values, survey = hidden_values(seed, len(model.increments)), Survey(model)
+    values, survey = generated_values(seed, len(model.increments)), Survey(model)
     answers, trace = dict.fromkeys(SIDES, 0), 0
     while "question" in (reply := survey.next(None)):
         number, place = reply["question"]["number"], survey.asked[-1]
-        lead = dot(values, model.gain(model.classes[place - 1], "left"))
-        side = "equal" if lead == 0 else "left" if lead > 0 else "right"
-        assert survey.answer(None, number, side) == {"accepted": number}
+        side = side_of(model, values, model.classes[place - 1])
+        expect("reply of the oracle's survey", survey.answer(None, number, side), {"accepted": number})
         answers[side] += 1
         trace = (31 * trace + 3 * place + SIDES.index(side)) % 1000000007
-    assert reply == {"complete": True}
+    expect("last reply of the oracle's survey", reply, {"complete": True})
     classes, asked = len(model.classes), len(survey.asked)
     counts = {"classes": classes, "questions": asked, **answers, "eliminated": classes - sum(answers.values()), "trace": trace}
     return " ".join(f"{name} {count}" for name, count in counts.items())
@@ -94,7 +73,7 @@ def main():
     for _ in range(count):
         draw, (levels, degree) = rng.choice((rng.randrange(20), rng.randrange(2**31))), any_shape(rng)
         shape, status, line = line_of(draw, levels, degree)
-        ran = subprocess.run([PROGRAM, "sample", str(draw), shape], stdin=subprocess.DEVNULL, capture_output=True, text=True)
+        ran = subprocess.run([PAPRIKA, "sample", str(draw), shape], stdin=subprocess.DEVNULL, capture_output=True, text=True)
         if (ran.returncode, ran.stdout, ran.stderr) != (status, line, ""):
             sys.exit(f"sample {draw} {shape}: {ran.returncode} {ran.stdout!r} and not {status} {line!r}")
         refused += status

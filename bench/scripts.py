@@ -16,10 +16,9 @@ import random
 import subprocess
 import sys
 
+from common import PAPRIKA, expect, want
 from oracle import Model, verdict_of
 from survey_oracle import Survey, compact
-
-PROGRAM = pathlib.Path(__file__).resolve().parent.parent / "crates/paprika/out/paprika"
 
 ELIMINATORS = range(5)
 SHAPES = [((2, 2), 2), ((3, 2), 2), ((2, 2, 2), 3), ((3, 3), 2), ((3, 2, 2), 2), ((3, 3, 2), 3), ((2, 2, 2, 2), 3), ((4, 3, 2), 2)]
@@ -88,8 +87,8 @@ def broken(rng, lines):
 
 # ---- what is written
 def run(text, *words):
-    ran = subprocess.run([PROGRAM, *words], input=text.encode(), capture_output=True)
-    assert not ran.stderr, ran.stderr
+    ran = subprocess.run([PAPRIKA, *words], input=text.encode(), capture_output=True)
+    expect("standard error", ran.stderr, b"")
     return ran.returncode, ran.stdout.decode()
 
 
@@ -98,22 +97,22 @@ def replies_of(sessions, text):
     lines = iter(text.splitlines(keepends=True))
     for session in sessions:
         welcome = json.loads(next(lines))["welcome"]
-        assert welcome["desk"] == session.desk, welcome
+        expect("desk of the welcome", welcome["desk"], session.desk)
         replies = []
         for said in session.messages:
             reply = next(lines)
             while said == RESULT and not reply.endswith("\nend\n"):
                 reply += next(lines)
             replies.append(reply)
-        assert next(lines) == '{"bye":true}\n'
+        expect("reply to a bye", next(lines), '{"bye":true}\n')
         yield welcome["classes"], replies
-    assert not list(lines)
+    expect("lines after the last bye", list(lines), [])
 
 
 def compare(survey, said, reply):
     if said != RESULT:
         wanted = {"refused": "message"} if said in WRONG else survey.reply_to(json.loads(said), json.loads(reply))
-        assert reply == compact(wanted) + "\n", f"{said} was answered {reply} and not {wanted}"
+        expect(f"reply to {said}", reply, compact(wanted) + "\n")
 
 
 def event_of(desk, said, reply):
@@ -129,31 +128,33 @@ def event_of(desk, said, reply):
     return f"withdraw {desk} {what['answer']}" if word == "withdrawn" else None
 
 
-def verdict(result):
+def judged(result):
+    """The verdict on a result, which is that of oracle.py."""
     status, line = run(result, "check")
-    assert status == 0 and line.strip() == verdict_of(result.encode()), (line, result)
-    return line.strip()
+    verdict = line.strip()
+    expect(f"status and verdict of {result}", (status, verdict), (0, verdict_of(result.encode())))
+    return verdict
 
 
 def judge_journal(shape, told, results):
     """The results of a respondent are beginnings of one journal, and the longest has what each desk was told, in order."""
     levels, degree = shape
     head = f"paprika result 2\nmodel {','.join(map(str, levels))} degree {degree}\n"
-    assert all(result.startswith(head) for result in results)
+    expect("results with another head", [result for result in results if not result.startswith(head)], [])
     journals = sorted((result.removeprefix(head).split("\n")[:-2] for result in results), key=len)
     longest = journals[-1]
-    assert all(journal == longest[: len(journal)] for journal in journals)
+    expect("journals that don't begin the longest", [journal for journal in journals if journal != longest[: len(journal)]], [])
     for desk, wanted in told.items():
         events = [line for line in longest if line.split(" ")[1] == str(desk) and not line.startswith("eliminate")]
-        assert len(events) <= len(wanted)
-        assert all(line == begun or line.startswith(begun + " ") for line, begun in zip(events, wanted)), (events, wanted)
+        begin = (line == begun or line.startswith(begun + " ") for line, begun in zip(events, wanted))
+        want(len(events) <= len(wanted) and all(begin), f"events of desk {desk}: {events}, not {wanted}")
 
 
 def judge(shape, sessions, text, counts):
     model = Model(*shape)
     surveys, told, results = {}, {}, {}
     for session, (classes, replies) in zip(sessions, replies_of(sessions, text)):
-        assert classes == len(model.classes)
+        expect("classes of the welcome", classes, len(model.classes))
         who = session.respondent
         alone = all(other.desk == session.desk for other in sessions if other.respondent == who)
         for said, reply in zip(session.messages, replies):
@@ -166,7 +167,7 @@ def judge(shape, sessions, text, counts):
         counts["replies"] += len(replies)
         counts["compared"] += len(replies) if alone else 0
     for who, texts in results.items():
-        counts.update(verdict(result) for result in texts)
+        counts.update(map(judged, texts))
         judge_journal(shape, told.get(who, {}), texts)
 
 
@@ -191,8 +192,10 @@ def main():
         for eliminators in ELIMINATORS:
             status, text = run(script, "run", "--eliminators", str(eliminators))
             try:
-                assert (status, text) == (1, f"{refused}\n") if refused else status == 0, (status, text)
-                if not refused:
+                if refused:
+                    expect("status and refusal", (status, text), (1, f"{refused}\n"))
+                else:
+                    expect("status", status, 0)
                     judge(shape, sessions, text, counts)
             except Exception as wrong:
                 pathlib.Path("wrong_script.txt").write_text(script)

@@ -8,26 +8,17 @@ ranked against the hidden values. It has a point exactly where the pair is open,
 `glpsol --exact` (Debian: glpk-utils), a process for each program, of which the time for an empty one is taken off, and
 `z3`, one process that keeps the answers from program to program. Times are processor time.
 """
-
 import pathlib
 import resource
 import subprocess
 import sys
 import tempfile
 
-from oracle import Model, dot
+from common import expect, generated_values, program, side_of, want
+from oracle import Model
 
-PROGRAM = pathlib.Path(__file__).resolve().parent.parent / "crates/decision_bench/out/decision_bench"
 STRICT, WEAK = 1, 0
-
-
-def hidden_values(count):
-    """Those of decision_bench: a linear congruential generator of 31 bits."""
-    state, values = 1, []
-    for _ in range(count):
-        state = (state * 1103515245 + 12345) % 2**31
-        values.append(state // 65536 % 1000 + 1)
-    return values
+SEED = 1  # of decision_bench
 
 
 def rows_of(model, pair, side):
@@ -63,7 +54,7 @@ class Glpsol:
         self.file.write_text("\n".join(parts))
         done = subprocess.run(["glpsol", "--exact", "--lp", self.file], capture_output=True, text=True, check=True)
         found, none = "OPTIMAL" in done.stdout, "NO PRIMAL FEASIBLE" in done.stdout or "NO FEASIBLE" in done.stdout
-        assert found != none, done.stdout
+        want(found != none, done.stdout)
         return found
 
     def add(self, rows):
@@ -97,7 +88,7 @@ class Z3:
         self.add(tried)
         self.say("(check-sat)")
         verdict = self.process.stdout.readline().strip()
-        assert verdict in ("sat", "unsat"), verdict
+        want(verdict in ("sat", "unsat"), f"z3 says {verdict}")
         self.say("(pop)")
         return verdict == "sat"
 
@@ -108,11 +99,11 @@ class Z3:
 
 def run(model, solver):
     """How many classes are open in a run by the solver, and the time of a decision."""
-    hidden = hidden_values(len(model.increments))
+    hidden = generated_values(SEED, len(model.increments))
     before, answered = children_seconds(), 0
     for pair in model.classes:
-        lead = dot(hidden, model.gain(pair, "left"))
-        side, against = ("left", "right") if lead > 0 else ("right", "left") if lead < 0 else ("equal", "right")
+        side = side_of(model, hidden, pair)
+        against = "left" if side == "right" else "right"
         if solver.has_point(rows_of(model, pair, against)):
             solver.add(rows_of(model, pair, side))
             answered += 1
@@ -121,7 +112,7 @@ def run(model, solver):
 
 def ours():
     """For each start at degree 2, how many classes are open and the time of a decision."""
-    lines = subprocess.run([PROGRAM, "time"], capture_output=True, text=True, check=True).stdout.splitlines()
+    lines = subprocess.run([program("decision_bench"), "time"], capture_output=True, text=True, check=True).stdout.splitlines()
     fields = [line.split() for line in lines[1:] if line.startswith("2 ")]
     return {line[1]: (int(line[3]), int(line[10]) / 1e9) for line in fields}
 
@@ -136,7 +127,7 @@ def main():
         answered, seconds = run(model, solver)
         times = ", ".join(f"{seconds / own:.0f} times {start}" for start, (_, own) in starts.items())
         print(f"{solver.name:<21} {answered} of {len(model.classes)} open, {seconds * 1e6:9.1f} microseconds each: {times}")
-        assert all(answered == own for own, _ in starts.values())
+        expect("classes that are open by each start", {own for own, _ in starts.values()}, {answered})
 
 
 if __name__ == "__main__":

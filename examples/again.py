@@ -13,19 +13,21 @@ import sys
 from ask import Definition, Record, Session, Trouble, paprika, reach
 
 
+def pair_of(question):
+    return tuple(question["left"]), tuple(question["right"])
+
+
 def answers_of(record):
-    """The side of each pair that an answer of the record stands for."""
-    commits = (line.split() for line in record.text.splitlines() if line.startswith("commit "))
-    sides = {int(number): side for _, _, number, side, *_ in commits}
+    """The side of each pair whose answer stands."""
     standing = {number for kind, number in record.events if kind == "commit"}
-    return {str((asked["left"], asked["right"])): sides[asked["number"]] for _, asked in record.questions if asked["number"] in standing}
+    return {pair_of(asked): record.sides[asked["number"]] for _, asked in record.questions if asked["number"] in standing}
 
 
 def give(session, answers):
     """How many answers were given, and the reply that came in place of a question with an answer."""
     given = 0
     while question := (reply := session.say({"ask": "next"})).get("question"):
-        side = answers.get(str((question["left"], question["right"])))
+        side = answers.get(pair_of(question))
         if not side:
             break
         session.say({"answer": {"question": question["number"], "side": side}})

@@ -154,6 +154,7 @@ class Record:
         self.text, self.model = "".join(lines), lines[1]
         self.questions = []  # desk and question
         self.events = []  # commits and closes with their questions, eliminations with the last answer that they cite
+        self.sides = {}  # of each question the side that was answered last
         kinds = {"issue": self.issue, "commit": self.end, "close": self.end, "eliminate": self.eliminate, "withdraw": self.withdraw}
         for fields in map(str.split, lines[2:-1]):
             kinds[fields[0]](fields)
@@ -164,6 +165,8 @@ class Record:
 
     def end(self, fields):
         self.events.append((fields[0], int(fields[2])))
+        if fields[0] == "commit":
+            self.sides[int(fields[2])] = fields[3]
 
     def eliminate(self, fields):
         cited = [int(cite.partition(":")[0]) for cite in fields[6].split(",") if cite != "-"]
@@ -189,7 +192,7 @@ def columns(text):
 
 
 def wrapped(text, width):
-    """The text in lines of at most so many columns, broken at a space where there is one."""
+    """The text in lines of at most `width` columns, broken at a space where there is one."""
     lines, line = [], ""
     for char in "".join("?" if unicodedata.category(c) == "Cc" else c for c in text):
         if columns(line + char) > width:
