@@ -1,11 +1,16 @@
-import json, socket, sys
+"""Asks at a server, line by line: client.py PORT NAME CODE"""
+import json
+import socket
+import sys
 
 port, name, code = sys.argv[1:]
 lines = socket.create_connection(("127.0.0.1", int(port))).makefile("rw")
 
+
 def say(message):
     print(json.dumps(message), file=lines, flush=True)
     return json.loads(lines.readline())
+
 
 say({"hello": {"name": name, "code": code, "desk": 1}})
 while question := say({"ask": "next"}).get("question"):
