@@ -57,13 +57,24 @@ refuse_each() { # the input, and the words
 
 head -n 4 examples/survey.txt >"$folder/script"
 printf '%s\n' '{"ask":"withdraw"}' '{"ask":"next"}' '{"ask":"bye"}' >>"$folder/script"
-for file in examples/claims.txt examples/withdrawn.txt examples/unproved.txt; do
+{
+    cat <<'EOF'
+{"criteria":[{"levels":["high","low"],"name":"price"},{"levels":["slow","fast"],"name":"speed"},{"levels":["loud","quiet"],"name":"noise"}],"degree":3,"respondents":[{"code":"k1","name":"ana"}]}
+{"hello":{"code":"k1","desk":1,"name":"ana"}}
+EOF
+    for question in 1 2 3 4; do
+        printf '%s\n' '{"ask":"next"}' "{\"answer\":{\"question\":$question,\"side\":\"left\"}}"
+    done
+    printf '%s\n' '{"ask":"next"}' '{"ask":"bye"}'
+} >"$folder/always_left"
+for file in examples/claims.txt examples/result.txt examples/withdrawn.txt examples/unproved.txt; do
     refuse_each "$file" check
 done
 refuse_each examples/withdrawn.txt migrate
 refuse_each examples/projects.txt rank
 refuse_each /dev/null sample 1 2x2x2:3
 for eliminators in 0 1 2; do
+    refuse_each "$folder/always_left" run --eliminators "$eliminators"
     refuse_each "$folder/script" run --eliminators "$eliminators"
     refuse_each /dev/null run --eliminators "$eliminators" --sample 1 --shape 2x2x2:3
 done
