@@ -1,17 +1,21 @@
 -- Laws of what a run leaves, from the laws of conversations and journals.
-use Rattle.std.proofs.Common.{◌≡◌, ◌≢◌, ◌⊎◌, inl, inr, ℕ, suc, ◌+◌, ◌<◌, ◌≤◌, ◌==◌, Bool, true, false, cond, List, [], ◌∷◌, ◌++◌, length, map, get_or, append-nil, All, Some, slice_get, refl, ap, sym, ◌∙◌, subst, arith}
+use Rattle.std.proofs.Common.{◌≡◌, ◌≢◌, ◌⊎◌, inl, inr, ℕ, suc, ◌+◌, ◌<◌, ◌≤◌, ◌==◌, Bool, true, false, cond, List, [], ◌∷◌, ◌++◌, length, map, get_or, take, drop, take-append-drop, append-nil, All, Some, slice_get, refl, ap, sym, ◌∙◌, subst, arith}
 use Rattle.std.specs.Prelude.{Any, AllPairs}
 use Rattle.std.specs.List.{flat_map}
 use Rattle.std.proofs.lemmas.Bool.{eq-eqb, eqb-true, true≢false}
 use Rattle.std.proofs.lemmas.List.Concat.{flat_map-append}
 use mathlib.Core.List.{IsPrefix}
 use Rattle.criteria_model.specs.Criteria.{Criteria}
+use Rattle.criteria_model.specs.declared.pairs.Pair.{Pair}
+use Rattle.criteria_model.specs.Answers.{IsSatisfiable, IsRanked, IsOpen, Opens}
 use Rattle.pair_enumeration.specs.Listed.{Listed, IsListed}
 use Rattle.row_laws.proofs.ListLemmas.{Any-cases, Any-here, Any-there}
 use Rattle.survey_core.specs.declared.events.Event.{Event}
+use Rattle.survey_core.specs.Histories.{committed}
 use Rattle.survey_core.specs.Legal.{IsLegal}
 use Rattle.survey_core.proofs.ListSteps.{Each, Each-All, All-Each}
 use Rattle.survey_core.proofs.NextTables.{flat_map-same}
+use Rattle.survey_core.proofs.RankingLemmas.{answers_are_satisfiable_lem, eliminated_are_ranked_lem, issued_are_open_lem}
 use Rattle.survey_replies.specs.Gists.{gist_of}
 use Rattle.survey_replies.specs.PlainLaws.{IsAlone}
 use Rattle.survey_replies.specs.Outcomes.{Exchange, at_of}
@@ -23,9 +27,28 @@ use Rattle.survey_replies.proofs.CallLemmas.{no_place_falls_lem, own_are_of_repl
 use Rattle.survey_replies.proofs.JournalLemmas.{each_eliminate_has_its_worker_lem, each_has_one_reply_lem, times_both}
 use Rattle.survey_replies.proofs.PlainLemmas.{alone_is_plain_lem, alone_is_the_plain_lem, legal_prefix}
 use Rattle.survey_state.specs.States.{Surveyed}
-use Rattle.survey_run.specs.Laws.{DeskReadsWhatItWrote, EachEliminateHasItsMaker, EachEventHasItsReply, EachReplyStands, OneDeskRunsPlain}
+use Rattle.survey_run.specs.Laws.{AnswersStaySatisfiable, DeskReadsWhatItWrote, EachEliminateHasItsMaker, EachEventHasItsReply, EachReplyStands, EliminatedWereRanked, IssuedWereOpen, OneDeskRunsPlain}
 use Rattle.survey_run.specs.Runs.{IsSurveyRun}
 use Rattle.survey_run.specs.Sessions.{MessageRun, SessionRun, all_exchanges, message_exchange, message_exchanges, of_desk}
+
+-- ---- the journal
+pub answers_stay_satisfiable_lem : AnswersStaySatisfiable
+answers_stay_satisfiable_lem criteria workers sessions state count is =
+    let front : List Event = take count state.journal in
+    let legal : IsLegal state.listed front =
+    legal_prefix state.listed front state.journal (drop count state.journal, take-append-drop count state.journal) is.legal in
+    subst (λ (c : Criteria). IsSatisfiable c.levels (committed state.listed.classes front)) is.model
+    (answers_are_satisfiable_lem state.listed front is.listed legal)
+
+pub eliminated_were_ranked_lem : EliminatedWereRanked
+eliminated_were_ranked_lem criteria workers sessions state before after worker place verdict combination pair is whole class =
+    subst (λ (c : Criteria). IsRanked c.levels (committed state.listed.classes before) pair verdict) is.model
+    (eliminated_are_ranked_lem state.listed state.journal before after worker place verdict combination pair is.legal whole class)
+
+pub issued_were_open_lem : IssuedWereOpen
+issued_were_open_lem criteria workers sessions state before after desk place plus minus pair is whole class =
+    subst (λ (c : Criteria). Opens c.levels (committed state.listed.classes before) pair plus minus × IsOpen c.levels (committed state.listed.classes before) pair) is.model
+    (issued_are_open_lem state.listed state.journal before after desk place plus minus pair is.legal whole class)
 
 -- ---- what a desk said
 -- the one conversation of a desk, over all its sessions

@@ -109,6 +109,7 @@ fn close_survey(
     let told = join_desks(&survey, &mut whole, spoken, told)?;
     join_workers(&survey, &mut whole, worked);
     let state = survey.close(whole);
+    // For its clauses: the journal is a legal history of the survey.
     state.length();
     Ok(SurveyEnd { state, told })
 }

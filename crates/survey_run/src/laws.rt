@@ -1,5 +1,20 @@
 //! What a run of a script comes to. Each function does nothing; its contract is the law.
-ghost use Rattle.survey_run.specs.Laws.{DeskReadsWhatItWrote, EachEliminateHasItsMaker, EachEventHasItsReply, EachReplyStands, OneDeskRunsPlain};
+ghost use Rattle.survey_run.specs.Laws.{AnswersStaySatisfiable, DeskReadsWhatItWrote, EachEliminateHasItsMaker, EachEventHasItsReply, EachReplyStands, EliminatedWereRanked, IssuedWereOpen, OneDeskRunsPlain};
+
+/// At each point of the journal some values meet the answers that stand then.
+pub fn answers_stay_satisfiable()
+    ensures { AnswersStaySatisfiable }
+{}
+
+/// Each eliminated class is ranked as the elimination says by the answers before it.
+pub fn eliminated_were_ranked()
+    ensures { EliminatedWereRanked }
+{}
+
+/// The vectors of each question open its class by the answers before it, which leave the class open.
+pub fn issued_were_open()
+    ensures { IssuedWereOpen }
+{}
 
 /// Each reply is the right one in the final journal, at its place.
 pub fn each_reply_stands()

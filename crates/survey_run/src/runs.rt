@@ -21,11 +21,13 @@ use crate::workers::{WorkerJob, Working};
 use criteria_model::Model;
 use edges::Gate;
 use eliminators::JobEnd;
+use json_forms::MAX_RESPONDENTS;
 use shared_survey::{Pass, Survey};
 use std::alloc::Global;
 use std::sync::Wait;
 use std::sync::atomic::AtomicBool;
 use std::thread::{Scope, Threads};
+use survey_core::MAX_WORKERS;
 use survey_script::Script;
 
 /// The desks of a survey while they run, and room for what comes of them.
@@ -58,7 +60,7 @@ impl DeskJob {
     }
 }
 
-/// Starts the desks of a survey.
+/// Starts each desk of a survey. What runs is put into the room.
 fn start_desks<'s, E: 's, R: Wait + Sync, G: Gate + Sync>(
     scope: &Scope<'s, E>,
     rt: &'s R,
@@ -83,7 +85,7 @@ fn start_desks<'s, E: 's, R: Wait + Sync, G: Gate + Sync>(
     running
 }
 
-/// Starts the desks of a survey.
+/// Starts the desks of a survey by its plan, and hands on its pass and the other rooms.
 fn start_survey<'s, E: 's, R: Wait + Sync, G: Gate + Sync>(
     scope: &Scope<'s, E>,
     rt: &'s R,
@@ -130,7 +132,7 @@ pub(crate) fn start_surveys<'s, E: 's, R: Wait + Sync, G: Gate + Sync>(
     count: u32,
 ) -> Vec<SurveyRunning>
     requires plans { EachZipFrom (PlanAt (model_of script.now.definition) count script.now.sessions) 0 surveys.now.items plans.items }
-    requires few { vec_len plans ≤ 16 }
+    requires few { vec_len plans ≤ MAX_RESPONDENTS }
     requires room { (running.items ≡ []) × (vec_len plans ≤ vec_capacity running) }
     ensures { EachZipFrom (RunningAt (model_of script.now.definition) count script.now.sessions) 0 surveys.now.items result.items }
 {
@@ -151,7 +153,7 @@ pub(crate) fn start_surveys<'s, E: 's, R: Wait + Sync, G: Gate + Sync>(
     running
 }
 
-/// Waits for the desks of a survey.
+/// Waits for each desk. What it brought back is put into the room.
 fn finish_desks<R: Threads>(rt: &R, running: Vec<Running>, mut spoken: Vec<Spoken>) -> Vec<Spoken>
     requires room { (spoken.items ≡ []) × (vec_len running ≤ vec_capacity spoken) }
     ensures spoken { (survey : SurveySeen) (respondent : ℕ) (sessions : List ScriptSessionView) → EachFrom (RunAt survey respondent sessions) 0 running.items
@@ -164,7 +166,7 @@ fn finish_desks<R: Threads>(rt: &R, running: Vec<Running>, mut spoken: Vec<Spoke
     spoken
 }
 
-/// Waits for the desks of a survey.
+/// Waits for the desks of a survey, and hands on its pass and the other room.
 fn finish_survey<R: Threads>(rt: &R, running: SurveyRunning) -> SurveySpoken
     requires room { HasRoomFor running }
     ensures { (survey : SurveySeen) (respondent : ℕ) (sessions : List ScriptSessionView) → IsRunningOf survey respondent sessions running
@@ -291,7 +293,7 @@ pub(crate) fn run_beside<'s, E: 's, R: Threads + Wait + Sync, G: Gate + Sync>(
 ) -> Finished
     requires plans { EachZipFrom (PlanAt (model_of script.now.definition) (vec_len works) script.now.sessions) 0 surveys.now.items plans.items }
     requires model { model.now ≡ model_of script.now.definition }
-    requires few { (vec_len plans ≤ 16) × (vec_len works ≤ 16) }
+    requires few { (vec_len plans ≤ MAX_RESPONDENTS) × (vec_len works ≤ MAX_WORKERS) }
     requires works { EachFrom (WorkAt (model_of script.now.definition) (vec_len surveys.now) surveys.now.items) 0 works.items }
     requires flags { vec_len works ≤ length flags.now }
     requires rooms { HasRooms (vec_len plans) (vec_len works) rooms }

@@ -125,6 +125,7 @@ fn end_run(
     requires rooms { HasEndRooms (vec_len surveys) (line_count script.now.sessions) rooms }
     ensures { IfOk result (λ end. IsRun script.now (vec_len finished.worked) end) }
 {
+    // For its clause: the script is whole.
     script.sessions();
     let EndRooms {
         ends,
@@ -178,7 +179,7 @@ pub fn run_sessions<R: Threads + Wait + Sync, G: Gate + Sync>(
         |scope| -> Finished
             requires plans { EachZipFrom (PlanAt (model_of script.now.definition) (vec_len works) script.now.sessions) 0 lent.now.items plans.items }
             requires model { model.now ≡ model_of script.now.definition }
-            requires few { (vec_len plans ≤ 16) × (vec_len works ≤ 16) }
+            requires few { (vec_len plans ≤ MAX_RESPONDENTS) × (vec_len works ≤ MAX_WORKERS) }
             requires works { EachFrom (WorkAt (model_of script.now.definition) (vec_len lent.now) lent.now.items) 0 works.items }
             requires flags { vec_len works ≤ length down.now }
             requires rooms { HasRooms (vec_len plans) (vec_len works) rooms }

@@ -11,7 +11,7 @@ use std::process::Abort;
 use std::sync::Wait;
 use std::test::Fail;
 use std::thread::Threads;
-use survey_core::Event;
+use survey_core::{Event, MAX_WORKERS};
 use survey_script::read_script;
 
 /// Three criteria of two levels, with two respondents.
@@ -145,7 +145,7 @@ fn run_lines<R: Threads + Wait + Sync, G: Gate + Sync>(
     workers: u32,
     gate: &G,
 ) -> Result<(RunEnd, Model), Fail>
-    requires { workers ≤ 16 }
+    requires { workers ≤ MAX_WORKERS }
 {
     let mut text = Vec::new(alloc);
     for line in lines {
@@ -284,13 +284,13 @@ fn desks_at_once(rt: HostRuntime) -> Result<(), Fail> {
             WELCOME_6, QUESTION_2, SAID_BYE, welcome, QUESTION_1, SAID_BYE,
         ],
     ];
-    let mut fits = 0u32;
+    let mut fits = false;
     for replies in &orders {
         if says(rt.alloc(), &end, &model, replies)? {
-            fits = 1;
+            fits = true;
         }
     }
-    assert!(rt; fits == 1);
+    assert!(rt; fits);
     Ok(())
 }
 

@@ -128,7 +128,7 @@ fn start_thread<'s, E: 's, R: Wait + Sync, G: Gate + Sync>(
         Ok(handle) => Working::Thread(handle),
         Err(refused) => {
             left_out.store(true, Ordering::SeqCst);
-            Working::Left((refused.value)())
+            Working::LeftOut((refused.value)())
         }
     }
 }
@@ -156,7 +156,7 @@ pub(crate) fn start_worker<'s, E: 's, R: Wait + Sync, G: Gate + Sync>(
             tools: _,
             jobs: _,
         } = job;
-        return Working::Left(turned(passes, back));
+        return Working::LeftOut(turned(passes, back));
     };
     start_thread(scope, rt, surveys, model, job, benches, left_out, gate)
 }
@@ -167,6 +167,6 @@ pub(crate) fn finish_worker<R: Threads>(rt: &R, working: Working) -> Vec<Pass>
 {
     match working {
         Working::Thread(handle) => handle.join(rt),
-        Working::Left(passes) => passes,
+        Working::LeftOut(passes) => passes,
     }
 }

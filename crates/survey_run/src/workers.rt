@@ -33,5 +33,5 @@ impl Promise<Vec<Pass>> for WorkerPromise {
 #[derive(Drop)]
 pub(crate) enum Working {
     Thread(PromisedHandle<Vec<Pass>, WorkerPromise>),
-    Left(Vec<Pass>),
+    LeftOut(Vec<Pass>),
 }
