@@ -6,7 +6,6 @@ use Rattle.std.proofs.lemmas.Bool.{eq-eqb, eqb-true, true≢false}
 use Rattle.std.proofs.lemmas.List.Concat.{flat_map-append}
 use mathlib.Core.List.{IsPrefix}
 use Rattle.criteria_model.specs.Criteria.{Criteria}
-use Rattle.criteria_model.specs.declared.pairs.Pair.{Pair}
 use Rattle.criteria_model.specs.Answers.{IsSatisfiable, IsRanked, IsOpen, Opens}
 use Rattle.pair_enumeration.specs.Listed.{Listed, IsListed}
 use Rattle.row_laws.proofs.ListLemmas.{Any-cases, Any-here, Any-there}
