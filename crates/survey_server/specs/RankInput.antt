@@ -12,7 +12,9 @@ use Rattle.ranking.specs.declared.stops.RankStop.TheVariants.{ReadFault, TableLo
 use Rattle.ranking.specs.Names.{NamedCriteria}
 use Rattle.ranking.specs.NamedWorths.{NamedWorthView}
 use Rattle.ranking.specs.Rankings.{IsTableRanking}
-use Rattle.survey_server.specs.declared.rank_input.TheConstants.{MAX_VALUES}
+use Rattle.result_file.specs.declared.limits.TheConstants.{MAX_LINE}
+use Rattle.survey_server.specs.declared.input_lines.FirstLineStop.{FirstLineStop}
+use Rattle.survey_server.specs.declared.input_lines.FirstLineStop.TheVariants as stop
 use Rattle.survey_server.specs.declared.rank_input.RankRefusal.{RankRefusal}
 use Rattle.survey_server.specs.declared.rank_input.RankRefusal.TheVariants.{Definition, Values, Stopped}
 
@@ -34,7 +36,7 @@ leading_definition text = if nat_le (length (first_line text)) MAX_DEFINITION th
 
 -- the vector of the first line
 abbrev pub values_in : List ℕ → List ℕ → Option (List ℤ)
-values_in levels text = if nat_le (length (first_line text)) MAX_VALUES then values_vector levels (first_line text) else None
+values_in levels text = if nat_le (length (first_line text)) MAX_LINE then values_vector levels (first_line text) else None
 
 -- a table is ranked so, or refused so
 abbrev pub IsTableOutcome : NamedCriteria → List ℤ → List ℕ → Result (List NamedWorthView) RankRefusal → Type 0
@@ -56,7 +58,7 @@ IsInputOutcome text outcome =
     (λ definition. IsValuesOutcome definition (after_first_line text) outcome)
     (λ fault. outcome ≡ Err (Definition fault))
 
--- neither a failure of the source nor want of memory says anything of the text
+-- that the source failed, or that memory ran out, says nothing of the text
 abbrev pub UnlessStopped : Result (List NamedWorthView) RankRefusal → Type 0 → Type 0
 UnlessStopped (Err (Stopped ReadFault)) P = Unit {0}
 UnlessStopped (Err (Stopped NoMemory)) P = Unit {0}
@@ -85,24 +87,8 @@ LineIs within text line longest left =
 abbrev pub ReadsDefinition : List ℕ → DefinitionView → Option (List ℕ) → Type 0
 ReadsDefinition text definition left = (leading_definition text ≡ Ok definition) × (left ≡ Some (after_first_line text))
 
--- the refusal is that of the first line, or says nothing of it
-abbrev pub IsDefinitionRefusal : List ℕ → RankRefusal → Type 0
-IsDefinitionRefusal text (Definition fault) = leading_definition text ≡ Err fault
-IsDefinitionRefusal text Values = ⊥
-IsDefinitionRefusal text (Stopped ReadFault) = Unit {0}
-IsDefinitionRefusal text (Stopped NoMemory) = Unit {0}
-IsDefinitionRefusal text (Stopped TableLong) = ⊥
-IsDefinitionRefusal text (Stopped Header) = ⊥
-IsDefinitionRefusal text (Stopped (Row place)) = ⊥
-IsDefinitionRefusal text (Stopped (Level place column)) = ⊥
-
--- a refusal that the first line can bring, whatever it is
-abbrev pub IsFirstRefusal : RankRefusal → Type 0
-IsFirstRefusal (Definition fault) = Unit {0}
-IsFirstRefusal Values = ⊥
-IsFirstRefusal (Stopped ReadFault) = Unit {0}
-IsFirstRefusal (Stopped NoMemory) = Unit {0}
-IsFirstRefusal (Stopped TableLong) = ⊥
-IsFirstRefusal (Stopped Header) = ⊥
-IsFirstRefusal (Stopped (Row place)) = ⊥
-IsFirstRefusal (Stopped (Level place column)) = ⊥
+-- the stop is that of the first line, or says nothing of it
+abbrev pub IsFirstLineStop : List ℕ → FirstLineStop → Type 0
+IsFirstLineStop text (stop.Refused fault) = leading_definition text ≡ Err fault
+IsFirstLineStop text stop.ReadFault = Unit {0}
+IsFirstLineStop text stop.NoMemory = Unit {0}

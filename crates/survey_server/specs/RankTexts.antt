@@ -24,13 +24,13 @@ model_fault_line Degree = codes "definition degree\n"
 model_fault_line (Classes count) = codes "definition classes " ++ decimal count ++ codes "\n"
 
 -- the line of a first line that is no definition
-abbrev pub definition_line : DefinitionFault → List ℕ
-definition_line Long = codes "definition long\n"
-definition_line Form = codes "definition form\n"
-definition_line (Model fault) = model_fault_line fault
-definition_line Respondents = codes "definition respondents\n"
-definition_line Name = codes "definition name\n"
-definition_line Twice = codes "definition twice\n"
+abbrev pub definition_fault_line : DefinitionFault → List ℕ
+definition_fault_line Long = codes "definition long\n"
+definition_fault_line Form = codes "definition form\n"
+definition_fault_line (Model fault) = model_fault_line fault
+definition_fault_line Respondents = codes "definition respondents\n"
+definition_fault_line Name = codes "definition name\n"
+definition_fault_line Twice = codes "definition twice\n"
 
 -- the line of a table that is refused
 abbrev pub stop_line : RankStop → List ℕ
@@ -43,7 +43,7 @@ stop_line (Level place column) = codes "rank level " ++ decimal place ++ codes "
 
 -- the line of a refusal
 abbrev pub refusal_line : RankRefusal → List ℕ
-refusal_line (Definition fault) = definition_line fault
+refusal_line (Definition fault) = definition_fault_line fault
 refusal_line Values = codes "rank values\n"
 refusal_line (Stopped stop) = stop_line stop
 

@@ -10,7 +10,7 @@ use Rattle.survey_server.specs.declared.commands.Ended.{Ended}
 use Rattle.survey_server.specs.declared.script_runs.Stop.{Stop}
 use Rattle.survey_server.specs.declared.script_runs.Stop.TheVariants as stop
 use Rattle.survey_server.specs.Command.{ChecksFile, IsCheck, IsMigrate, IsModelShape, IsNoCommand, IsRank, IsRankable, IsSampleCommand, IsSilent, IsValidFile, IsValidResult, IsWorthAnswer, MigratesFile, RanksTable, SamplesShape, ShowsUsage, Writes, command_in}
-use Rattle.survey_server.specs.RankTexts.{definition_line}
+use Rattle.survey_server.specs.RankTexts.{definition_fault_line}
 use Rattle.survey_server.specs.ScriptRuns.{IsScriptOutcome}
 use Rattle.survey_server.specs.Serving.{BeginsWithDefinition, IsServeCommand}
 use Rattle.survey_words.specs.declared.commands.Command.{Command}
@@ -50,7 +50,7 @@ script_line line part = codes "script " ++ decimal line ++ codes " " ++ script_p
 abbrev pub AnswersScript : Result RunView Stop → Option (List ℕ) → Option (List ℕ) → Ended → Type 0
 AnswersScript (Ok end) before now ended = IsSilent 0 before now ended.status × (ended.run ≡ Some end)
 AnswersScript (Err (stop.WriteFault end)) before now ended = IsSilent 4 before now ended.status × (ended.run ≡ Some end)
-AnswersScript (Err (stop.Definition fault)) before now ended = Writes (definition_line fault) 1 before now ended.status × (ended.run ≡ None)
+AnswersScript (Err (stop.Definition fault)) before now ended = Writes (definition_fault_line fault) 1 before now ended.status × (ended.run ≡ None)
 AnswersScript (Err (stop.Script line part)) before now ended = Writes (script_line line part) 1 before now ended.status × (ended.run ≡ None)
 AnswersScript (Err stop.ReadFault) before now ended = IsSilent 3 before now ended.status × (ended.run ≡ None)
 AnswersScript (Err stop.NoMemory) before now ended = IsSilent 5 before now ended.status × (ended.run ≡ None)

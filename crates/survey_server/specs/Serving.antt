@@ -11,7 +11,7 @@ use Rattle.survey_server.specs.declared.script_runs.Stop.{Stop}
 use Rattle.survey_server.specs.declared.script_runs.Stop.TheVariants as stop
 use Rattle.survey_server.specs.Command.{IsSilent, Writes, command_in}
 use Rattle.survey_server.specs.RankInput.{leading_definition}
-use Rattle.survey_server.specs.RankTexts.{definition_line}
+use Rattle.survey_server.specs.RankTexts.{definition_fault_line}
 use Rattle.survey_words.specs.declared.commands.Command.TheVariants as command
 
 -- the words name the serving of `connections` connections at a port, beside `eliminators` eliminators
@@ -44,7 +44,7 @@ AnswersServed end before now ended =
 -- how what came of serving is answered: by that line, by the line of a first line that is no definition, or by nothing
 abbrev pub AnswersServing : Result ServeEnd Stop → Option (List ℕ) → Option (List ℕ) → Ended → Type 0
 AnswersServing (Ok end) before now ended = AnswersServed end before now ended
-AnswersServing (Err (stop.Definition fault)) before now ended = Writes (definition_line fault) 1 before now ended.status × (ended.served ≡ None)
+AnswersServing (Err (stop.Definition fault)) before now ended = Writes (definition_fault_line fault) 1 before now ended.status × (ended.served ≡ None)
 AnswersServing (Err stop.ReadFault) before now ended = IsSilent 3 before now ended.status × (ended.served ≡ None)
 AnswersServing (Err stop.DoorFault) before now ended = IsSilent 6 before now ended.status × (ended.served ≡ None)
 AnswersServing (Err stop.NoMemory) before now ended = IsSilent 5 before now ended.status × (ended.served ≡ None)

@@ -2,20 +2,19 @@
 ghost use Rattle.std.specs.Prelude.{◌≡◌, ◌≢◌, ◌↔◌, ◌⊎◌, ℕ, ◌≤◌, [], Some, None, IfErr};
 ghost use Rattle.edges.specs.Faults.{CountsFaults, HasRisen};
 ghost use Rattle.survey_server.specs.Command.{SamplesShape, Writes, command_in};
-ghost use Rattle.survey_server.specs.RankTexts.{definition_line};
+ghost use Rattle.survey_server.specs.RankTexts.{definition_fault_line};
 ghost use Rattle.survey_server.specs.ScriptCommand.{AnswersScript, DoesPlainCommand, HasInputFor, IsPlainCommand, IsRunCommand, IsSampleRunCommand, RunsAndAnswers, script_line, script_part_text};
 ghost use Rattle.survey_server.specs.ScriptRuns.{IsWriteFault};
 ghost use Rattle.survey_server.specs.Serving.{AnswersServed, AnswersServing, IsServeCommand, IsServeStop, ServesAndAnswers, served_line};
 ghost use Rattle.survey_words.specs.declared.commands.Command.{Command as Named};
 ghost use Rattle.survey_words.specs.declared.shapes.Shape.{Shape};
 
-use crate::plain_commands::{
-    DONE, DOOR_FAULT, NO_MEMORY, READ_FAULT, REFUSED, WRITE_FAULT, plain_command, write,
-};
+use crate::plain_commands::{plain_command, write};
 use crate::rank_texts::{ROOM, add_fault};
 use crate::sample_runs::sample_beside;
 use crate::script_runs::{Stop, run_script};
 use crate::serving::serve_definition;
+use crate::statuses::{DONE, DOOR_FAULT, NO_MEMORY, READ_FAULT, REFUSED, WRITE_FAULT};
 use edges::{Door, Gate, Sink, Source, Text, put_bytes};
 use itoa::Buffer;
 use json_forms::DefinitionFault;
@@ -184,21 +183,20 @@ fn answer_script<K: Sink>(text: Text, outcome: Result<RunEnd, Stop>, sink: &mut 
 }
 
 /// Answers a first line that is no definition, in an empty text.
-fn refuse_definition<K: Sink>(text: Text, fault: DefinitionFault, sink: &mut K) -> u8
+fn refuse_definition<K: Sink>(mut text: Text, fault: DefinitionFault, sink: &mut K) -> u8
     requires empty { text.bytes ≡ [] }
     requires room { text.room ≡ ROOM }
-    ensures written { Writes (definition_line fault) 1 (K.written sink.old) (K.written sink.new) result }
+    ensures written { Writes (definition_fault_line fault) 1 (K.written sink.old) (K.written sink.new) result }
     ensures no_read_fault { result ≢ 3 }
     ensures no_door_fault { result ≢ 6 }
     ensures write_fault { CountsFaults (result ≡ 4) (K.faults sink.old) (K.faults sink.new) }
 {
-    let mut text = text;
     add_fault(&mut text, fault);
     write(text.bytes(), REFUSED, sink)
 }
 
 /// Answers a line of a script that fails, in an empty text.
-fn refuse_script<K: Sink>(text: Text, line: u32, part: ScriptPart, sink: &mut K) -> u8
+fn refuse_script<K: Sink>(mut text: Text, line: u32, part: ScriptPart, sink: &mut K) -> u8
     requires empty { text.bytes ≡ [] }
     requires room { text.room ≡ ROOM }
     ensures written { Writes (script_line line part) 1 (K.written sink.old) (K.written sink.new) result }
@@ -206,7 +204,6 @@ fn refuse_script<K: Sink>(text: Text, line: u32, part: ScriptPart, sink: &mut K)
     ensures no_door_fault { result ≢ 6 }
     ensures write_fault { CountsFaults (result ≡ 4) (K.faults sink.old) (K.faults sink.new) }
 {
-    let mut text = text;
     add_script_line(&mut text, line, part);
     write(text.bytes(), REFUSED, sink)
 }
@@ -308,7 +305,7 @@ fn answer_serving<K: Sink>(text: Text, outcome: Result<ServeEnd, Stop>, sink: &m
 }
 
 /// Answers the end of serving by how many connections were served, in an empty text, and by its status.
-fn answer_served<K: Sink>(text: Text, end: ServeEnd, sink: &mut K) -> Ended
+fn answer_served<K: Sink>(mut text: Text, end: ServeEnd, sink: &mut K) -> Ended
     requires empty { text.bytes ≡ [] }
     requires room { text.room ≡ ROOM }
     ensures answered { AnswersServed end (K.written sink.old) (K.written sink.new) result }
@@ -316,7 +313,6 @@ fn answer_served<K: Sink>(text: Text, end: ServeEnd, sink: &mut K) -> Ended
     ensures statuses { (result.status ≡ 0) ⊎ (result.status ≡ 4) }
     ensures write_fault { CountsFaults (result.status ≡ 4) (K.faults sink.old) (K.faults sink.new) }
 {
-    let mut text = text;
     add_served(&mut text, end.count());
     match put_bytes(text.bytes(), sink) {
         Ok(()) => Ended {

@@ -7,12 +7,13 @@
 //! and the source's bytes, but for the replies of a run, each of which is right in the one journal of its respondent's survey; a
 //! command fails only where a count of faults rose. The calls of `survey_run` and `survey_hall` that it stands on are given on.
 //!
-//! Inside: `rank_input` reads a definition line, a values line and a table and ranks it, by the names that `survey_names` gives;
-//! `rank_texts` has the texts that answer it, and `sample_texts` the line of a sample survey. `script_runs` runs a script, and
-//! `script_texts` writes the replies to its lines; `serving` serves the surveys of a definition.
+//! Inside: `input_lines` reads the definition of the first line, and `rank_input` ranks what follows it, a values line and a table, by the
+//! names that `survey_names` gives; `rank_texts` has the texts that answer it, and `sample_texts` the line of a sample survey.
+//! `script_runs` runs a script, and `script_texts` writes the replies to its lines; `serving` serves the surveys of a definition.
 #![tactic(auto)]
 
 mod commands;
+mod input_lines;
 mod plain_commands;
 mod rank_input;
 mod rank_texts;
@@ -21,6 +22,7 @@ mod sample_texts;
 mod script_runs;
 mod script_texts;
 mod serving;
+mod statuses;
 mod survey_names;
 
 pub use commands::{Ended, command};

@@ -1,3 +1,4 @@
+//! The commands that wait for nobody.
 ghost use Rattle.std.specs.Prelude.{◌≡◌, ◌≢◌, ◌↔◌, ◌⊎◌, ℕ, []};
 ghost use Rattle.edges.specs.Faults.{CountsFaults, HasRisen};
 ghost use Rattle.survey_words.specs.Shapes.{IsShape};
@@ -7,6 +8,7 @@ ghost use Rattle.survey_server.specs.Command.{IsCheck, IsMigrate, IsRank, IsSamp
 use crate::rank_input::{RankRefusal, rank_input};
 use crate::rank_texts::{ROOM, add_model_fault, add_refusal, ranking_text_of};
 use crate::sample_texts::sample_line_of;
+use crate::statuses::{DONE, NO_MEMORY, READ_FAULT, REFUSED, USAGE_SHOWN, WRITE_FAULT};
 use criteria_model::{Model, ModelFault};
 use edges::{Sink, Source, Text, put_bytes};
 use itoa::Buffer;
@@ -19,21 +21,6 @@ use survey_words::{Command, Shape, read_words};
 /// The line that words of no command get.
 const USAGE: &[u8] =
     b"usage: paprika check | migrate | rank | sample SEED SHAPE | run [--eliminators N] [--sample SEED --shape SHAPE] | serve PORT [--eliminators N] [--connections K]\n";
-
-/// The statuses that a command ends with.
-pub(crate) const DONE: u8 = 0;
-
-pub(crate) const REFUSED: u8 = 1;
-
-const USAGE_STATUS: u8 = 2;
-
-pub(crate) const READ_FAULT: u8 = 3;
-
-pub(crate) const WRITE_FAULT: u8 = 4;
-
-pub(crate) const NO_MEMORY: u8 = 5;
-
-pub(crate) const DOOR_FAULT: u8 = 6;
 
 /// Does what the words say, where it waits for nobody, and returns the status.
 pub fn plain_command<S: Source, K: Sink>(
@@ -90,7 +77,7 @@ fn show_usage<K: Sink>(alloc: Global, sink: &mut K) -> u8
         Err(_) => return NO_MEMORY,
     };
     text.add(USAGE);
-    write(text.bytes(), USAGE_STATUS, sink)
+    write(text.bytes(), USAGE_SHOWN, sink)
 }
 
 /// Checks the file of the source.
@@ -207,7 +194,7 @@ pub(crate) fn refuse_shape<K: Sink>(alloc: Global, fault: ModelFault, sink: &mut
 }
 
 /// Answers a refusal by its line, in an empty text, and by its status.
-fn refuse<K: Sink>(text: Text, refusal: RankRefusal, sink: &mut K) -> u8
+fn refuse<K: Sink>(mut text: Text, refusal: RankRefusal, sink: &mut K) -> u8
     requires empty { text.bytes ≡ [] }
     requires room { text.room ≡ ROOM }
     ensures answered { AnswersRefusal refusal (K.written sink.old) (K.written sink.new) result }
@@ -215,7 +202,6 @@ fn refuse<K: Sink>(text: Text, refusal: RankRefusal, sink: &mut K) -> u8
     ensures no_door_fault { result ≢ 6 }
     ensures write_fault { CountsFaults (result ≡ 4) (K.faults sink.old) (K.faults sink.new) }
 {
-    let mut text = text;
     add_refusal(&mut text, refusal);
     match refusal {
         RankRefusal::Stopped(RankStop::ReadFault) => READ_FAULT,
@@ -227,7 +213,7 @@ fn refuse<K: Sink>(text: Text, refusal: RankRefusal, sink: &mut K) -> u8
 }
 
 /// Answers a verdict by its line, in an empty text, and by its status.
-fn answer<K: Sink>(text: Text, verdict: Checked, sink: &mut K) -> u8
+fn answer<K: Sink>(mut text: Text, verdict: Checked, sink: &mut K) -> u8
     requires empty { text.bytes ≡ [] }
     requires room { text.room ≡ ROOM }
     ensures answered { Answers verdict (K.written sink.old) (K.written sink.new) result }
@@ -235,7 +221,6 @@ fn answer<K: Sink>(text: Text, verdict: Checked, sink: &mut K) -> u8
     ensures no_door_fault { result ≢ 6 }
     ensures write_fault { CountsFaults (result ≡ 4) (K.faults sink.old) (K.faults sink.new) }
 {
-    let mut text = text;
     add_line(&mut text, verdict);
     match verdict {
         Checked::Valid | Checked::ValidComplete => write(text.bytes(), DONE, sink),

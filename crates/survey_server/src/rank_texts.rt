@@ -3,7 +3,7 @@ ghost use Rattle.std.specs.Prelude.{◌≡◌, ◌≤◌, [], ◌++◌, Some, le
 ghost use Rattle.row_laws.specs.Items.{item_at};
 ghost use Rattle.csv.specs.Writing.{default_writer, row_text};
 ghost use Rattle.ranking.specs.NamedWorths.{NamedWorthView};
-ghost use Rattle.survey_server.specs.RankTexts.{IsReady, definition_line, model_fault_line, ranked_row, ranked_text, refusal_line, stop_line, written};
+ghost use Rattle.survey_server.specs.RankTexts.{IsReady, definition_fault_line, model_fault_line, ranked_row, ranked_text, refusal_line, stop_line, written};
 
 use crate::rank_input::RankRefusal;
 use criteria_model::ModelFault;
@@ -97,7 +97,7 @@ pub(crate) fn add_refusal(text: &mut Text, refusal: RankRefusal)
 pub(crate) fn add_fault(text: &mut Text, fault: DefinitionFault)
     requires empty { text.old.bytes ≡ [] }
     requires room { text.old.room ≡ ROOM }
-    ensures { text.new.bytes ≡ definition_line fault }
+    ensures { text.new.bytes ≡ definition_fault_line fault }
 {
     match fault {
         DefinitionFault::Long => text.add(b"definition long\n"),

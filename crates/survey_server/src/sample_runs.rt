@@ -4,7 +4,8 @@ ghost use Rattle.edges.specs.Faults.{CountsFaults};
 ghost use Rattle.survey_server.specs.Command.{SamplesModel, SamplesShape};
 ghost use Rattle.survey_words.specs.Shapes.{IsShape};
 
-use crate::plain_commands::{NO_MEMORY, refuse_shape, write_summary};
+use crate::plain_commands::{refuse_shape, write_summary};
+use crate::statuses::NO_MEMORY;
 use criteria_model::Model;
 use edges::{Gate, Sink};
 use std::alloc::Global;

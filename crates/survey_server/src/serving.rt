@@ -4,11 +4,10 @@ ghost use Rattle.edges.specs.Faults.{CountsFaults};
 ghost use Rattle.survey_server.specs.RankInput.{leading_definition};
 ghost use Rattle.survey_server.specs.Serving.{IsServeOutcome, IsServeStop};
 
-use crate::rank_input::{RankRefusal, definition_line};
+use crate::input_lines::{FirstLineStop, read_first_line};
 use crate::script_runs::Stop;
 use edges::{Door, Failed, Gate, Lines, Sink, Source};
 use json_forms::{Definition, DefinitionFault, MAX_DEFINITION};
-use ranking::RankStop;
 use std::alloc::Global;
 use std::sync::Wait;
 use std::thread::Threads;
@@ -77,11 +76,10 @@ fn first_definition<S: Source>(alloc: Global, source: &mut S) -> Result<Definiti
         Ok(lines) => lines,
         Err(_) => return Err(Stop::NoMemory),
     };
-    match definition_line(alloc, &mut lines, source) {
+    match read_first_line(alloc, &mut lines, source) {
         Ok(definition) => Ok(definition),
-        Err(RankRefusal::Definition(fault)) => Err(Stop::Definition(fault)),
-        Err(RankRefusal::Stopped(RankStop::ReadFault)) => Err(Stop::ReadFault),
-        Err(RankRefusal::Stopped(RankStop::NoMemory)) => Err(Stop::NoMemory),
-        Err(_) => unreachable!(),
+        Err(FirstLineStop::Refused(fault)) => Err(Stop::Definition(fault)),
+        Err(FirstLineStop::ReadFault) => Err(Stop::ReadFault),
+        Err(FirstLineStop::NoMemory) => Err(Stop::NoMemory),
     }
 }

@@ -1,5 +1,5 @@
 use Rattle.survey_server.proofs.LineLemmas.{line_given, piece_given, too_long_given}
-use Rattle.survey_server.proofs.rank_input.read_line.Goals as goal
+use Rattle.survey_server.proofs.input_lines.read_line.Goals as goal
 
 pub returns-in-Line-clause-line : goal.returns-in-Line-clause-line
 returns-in-Line-clause-line g c = line_given c.next_line.new.self _ _ (rw c.in-Line.is at c.next_line.ensures.got)
