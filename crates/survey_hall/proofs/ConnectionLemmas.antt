@@ -103,7 +103,7 @@ not_begun definition left written = record {
 }
 
 -- ---- the session after it
--- an end that is neither a fault nor want of memory leaves of the text what it says
+-- an end that is neither a fault nor out of memory leaves of the text what it says
 leaves_text : (end : SessionEnd) (kept : List ℕ) (left : Option (List ℕ)) (rest : List ℕ) → prepend_known kept left ≡ Some rest
     → (end ≡ EndOfInput → IsAtEnd (prepend_known kept left)) → (end ≡ LineTooLong → IsOverlong kept)
     → (end ≡ ReadFault → ⊥) → (end ≡ WriteFault → ⊥) → (end ≡ NoMemory → ⊥) → LeavesText end rest

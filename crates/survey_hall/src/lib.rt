@@ -5,7 +5,7 @@
 //! and written, and of a session at which journal it began, what the desk had seen at the end, and that the replies are those of one
 //! conversation in it. Until its hello has passed the tests a connection holds no desk; when it ends, its desk is free again.
 //!
-//! `serve` accepts connections from a door and serves each in a thread, beside eliminators; it tells of each what it was served.
+//! `serve` accepts connections from a door and serves each in a thread, beside eliminators; its answer has what each was served.
 //!
 //! Memory for surveys, desks and eliminators is taken by `Hall::build`. A connection takes that of its lines before its desk is got,
 //! and then only what a message needs while it is read and what a withdrawal may need; `serve` takes that of its lists first.
