@@ -36,6 +36,8 @@ ROWS = [
     Row("solves_inside_turn", "survey_run", ("solve_outside_turn",)),
     Row("solves_inside_turn", "survey_hall", ("solve_outside_turn",)),
     Row("no_stop_marks_hall", "survey_hall", ("connection_waits_for_hand_in",)),
+    Row("two_stop_marks_hall", "survey_hall", ("hall_served_twice",)),
+    Row("eliminators_not_put_back_hall", "survey_hall", ("hall_served_twice",)),
     Row("desks_in_turn", "survey_run", ("desks_at_once",)),
     Row("connections_in_turn", "survey_hall", ("connections_at_once",)),
     Row("survey_per_connection", "survey_hall", ("connections_share_survey",)),
